@@ -1,0 +1,11 @@
+// The classes of a space: cells that chains of ties ask to be the same, and what is asked of each.
+mod classes;
+mod finding;
+mod musts;
+mod numbering;
+mod reading;
+mod uniting;
+
+pub use classes::Classes;
+pub use classes::Musts;
+pub use finding::classes_of;

@@ -1,0 +1,76 @@
+ghost use Prim.Native.Nat.{ℕ, _+_, _*_, _<_, _≤_};
+ghost use Rattle.classes.specs.Labels.{Numbered};
+ghost use Rattle.frames.specs.Frames.{cells};
+ghost use Rattle.std.specs.Of.Vec.{vec-items, vec-len};
+ghost use Rattle.std.specs.Vec.{made};
+ghost use lib.ListN.{length};
+ghost use mathlib.Core.Path.{_≡_};
+use crate::classes::Musts;
+use planes::Plane;
+use planes::Space;
+use planes::Tie;
+use std::alloc::AllocError;
+use std::alloc::Global;
+
+// Nothing asked of any of so many classes.
+pub(crate) fn no_musts(heap: Global, classes: usize) -> Result<Vec<Musts>, AllocError>
+    ensures { λ r. ⌜ made r (λ v. vec-len v ≡ classes) ⌝ }
+{
+    let mut musts = Vec::new(heap);
+    for _ in 0..classes {
+        musts.push(Musts {
+            off: false,
+            on: false,
+        })?;
+    }
+    Ok(musts)
+}
+
+// Notes what a tie asks of a class.
+fn note(musts: &mut [Musts], class: u16, tie: Tie)
+    requires { ⌜ class < length (now musts) ⌝ }
+    ensures { λ _. ⌜ length (now (musts .exit)) ≡ length (now (musts .entry)) ⌝ }
+{
+    let class = class as usize;
+    match tie {
+        Tie::Off => musts[class].off = true,
+        Tie::On => musts[class].on = true,
+        _ => {}
+    }
+}
+
+// Notes what every tie asks of its cell's class.
+pub(crate) fn note_all<S: Space>(musts: &mut [Musts], labels: &[u16], space: &S)
+    requires { ⌜ length (now labels) ≡ cells (S·Plane .means (now space) .frame) ⌝ ∗ ⌜ Numbered (length (now musts)) (now labels) ⌝ }
+    ensures { λ _. ⌜ length (now (musts .exit)) ≡ length (now (musts .entry)) ⌝ }
+{
+    let cells = space.frame().cells();
+    for tie in 0..space.rows() * cells {
+        let cell = tie % cells;
+        note(musts, labels[cell as usize], space.tie(tie / cells, cell));
+    }
+}
+
+// How many classes nothing is asked of.
+pub(crate) fn count_free(musts: &[Musts]) -> u32
+    requires { ⌜ length (now musts) ≤ 4096 ⌝ }
+    ensures { λ r. ⌜ r ≤ length (now (musts .entry)) ⌝ }
+{
+    let mut free = 0;
+    for must in musts {
+        if !must.off && !must.on {
+            free += 1;
+        }
+    }
+    free
+}
+
+// Whether something is asked to be off and on at once.
+pub(crate) fn any_torn(musts: &[Musts]) -> bool {
+    for must in musts {
+        if must.off && must.on {
+            return true;
+        }
+    }
+    false
+}

@@ -1,0 +1,13 @@
+// What a neighbourhood forces: descriptors, their codes by fitting pairs, and the table of 729 codes.
+mod coding;
+mod descriptor;
+mod life;
+mod table;
+mod value;
+
+pub use coding::CONTRADICTION;
+pub use coding::code_of;
+pub use descriptor::Descriptor;
+pub use table::Table;
+pub use value::Value;
+pub use value::ValuePartialEq;

@@ -1,0 +1,16 @@
+use borrow.Author.Needs.{needs}
+use native.Mathlib.Omega.{arith}
+use Prim.Native.Nat.{_*_, _<_, _/_}
+use Rattle.std.proofs.shelf.Bits.{mod-below}
+use Rattle.frames.proofs.Cells.{generation-below}
+use Rattle.frames.proofs.frame.Frame.cell_at.Needs as need
+
+pub returns : need.returns
+returns c =
+    let f = c .args .self .now in
+    let n = c .args .number in
+    let less : n < f .width * f .height * f .period = omega arith in
+    record {
+      inside = (mod-below n (f .width) (f .wide), mod-below (n / f .width) (f .height) (f .tall), generation-below (f .width) (f .height) (f .period) n (f .wide) (f .tall) less);
+      value = search needs;
+    }

@@ -1,0 +1,2 @@
+pub mod Radix
+pub mod Turns

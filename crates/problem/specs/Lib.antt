@@ -1,0 +1,4 @@
+pub mod Choices
+pub mod Faults
+pub mod Lines
+pub mod Pages
