@@ -97,7 +97,7 @@ fn same_as(frame: &Frame, cell: Cell) -> Tie
 {
     match frame.number_of(cell) {
         Some(number) => Tie::Same(number),
-        None => Tie::Off,
+        None => Tie::Free,
     }
 }
 
