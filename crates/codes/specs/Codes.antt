@@ -1,10 +1,9 @@
--- What a descriptor forces, by its fitting pairs, as a code.
+-- What a descriptor forces under a rule, by its fitting pairs, as a code. The rule is given by its
+-- answers: whether a cell is on next, from whether it is on and how many of its neighbours are.
 use Prim.Native.Nat.{ℕ, zero, suc, _+_, _*_, _/_, _%_}
 use mathlib.Core.Bool.{Bool, true, false, not, cond, _&&_}
-use mathlib.Core.List.{List, [], _∷_, _++_}
-use lib.Dec.{eqb, leb}
-use Rattle.rules.specs.declared.rule.Rule.{Rule}
-use Rattle.rules.specs.Answers.{answer}
+use mathlib.Core.List.{List, [], _∷_}
+use lib.Dec.{eqb, leb, ltb}
 use Rattle.codes.specs.declared.descriptor.Descriptor.{Descriptor}
 use Rattle.codes.specs.declared.value.Value.{Value}
 use Rattle.codes.specs.declared.value.Value.the-variants.{Off, On, Unknown}
@@ -25,21 +24,32 @@ pub record Pair : Type 0 where
   pub centre : Bool
   pub sum : ℕ
 
+-- whether a pair fits: its centre agrees with a known one, and its answer with a known successor
+abbrev pub fits : (Bool → ℕ → Bool) → Parts → Pair → Bool
+fits rule d p = agrees (d .centre) (p .centre) && agrees (d .successor) (rule (p .centre) (p .sum))
+
 abbrev pub keepIf : Bool → Pair → List Pair → List Pair
-keepIf keep p ps = cond keep (p ∷ ps) ps
+keepIf true p ps = p ∷ ps
+keepIf false p ps = ps
 
--- the pairs of one centre with the sums from n to n + u whose answer agrees with a successor
-abbrev pub fittingFrom : Rule → Value → Bool → ℕ → ℕ → List Pair
-fittingFrom r successor centre n zero = keepIf (agrees successor (answer r centre n)) (record { centre = centre; sum = n }) []
-fittingFrom r successor centre n (suc u) = keepIf (agrees successor (answer r centre n)) (record { centre = centre; sum = n }) (fittingFrom r successor centre (suc n) u)
+-- a pair in front of others, if it fits
+abbrev pub withFit : (Bool → ℕ → Bool) → Parts → Pair → List Pair → List Pair
+withFit rule d p ps = keepIf (fits rule d p) p ps
 
--- the same for each centre that agrees with the known one
-abbrev pub fittingAt : Rule → Parts → Bool → List Pair
-fittingAt r d centre = cond (agrees (d .centre) centre) (fittingFrom r (d .successor) centre (d .on) (d .unknown)) []
+-- the fitting pairs of the n least sums, the greatest first
+abbrev pub fittingOf : (Bool → ℕ → Bool) → Parts → ℕ → List Pair
+fittingOf rule d zero = []
+fittingOf rule d (suc n) =
+    withFit rule d (record { centre = false; sum = d .on + n })
+    (withFit rule d (record { centre = true; sum = d .on + n }) (fittingOf rule d n))
 
--- all fitting pairs
-abbrev pub fitting : Rule → Parts → List Pair
-fitting r d = fittingAt r d false ++ fittingAt r d true
+-- all fitting pairs: their sums are from on to on + unknown
+abbrev pub fitting : (Bool → ℕ → Bool) → Parts → List Pair
+fitting rule d = fittingOf rule d (suc (d .unknown))
+
+abbrev pub isEmpty : List Pair → Bool
+isEmpty [] = true
+isEmpty (p ∷ ps) = false
 
 -- whether a test passes at each pair
 abbrev pub every : (Pair → Bool) → List Pair → Bool
@@ -51,29 +61,39 @@ isUnknown Off = false
 isUnknown On = false
 isUnknown Unknown = true
 
--- one number where all pairs are off, another where all are on, and 0 otherwise
-abbrev pub forced : Bool → ℕ → (Pair → Bool) → ℕ → (Pair → Bool) → List Pair → ℕ
-forced asked offCode off onCode on ps = cond asked (cond (every off ps) offCode 0 + cond (every on ps) onCode 0) 0
+-- whether a state is off, for false, or on, for true
+abbrev pub is : Bool → Bool → Bool
+is false state = not state
+is true state = state
 
--- the code of a descriptor with these fitting pairs: 1 for a contradiction, or what they force
-abbrev pub codeBy : Rule → Parts → List Pair → ℕ
-codeBy r d [] = 1
-codeBy r d (p ∷ ps) =
-    forced (isUnknown (d .centre)) 2 (λ q. not (q .centre)) 4 (λ q. q .centre) (p ∷ ps)
-    + forced (isUnknown (d .successor)) 8 (λ q. not (answer r (q .centre) (q .sum))) 16 (λ q. answer r (q .centre) (q .sum)) (p ∷ ps)
-    + forced (leb 1 (d .unknown)) 32 (λ q. eqb (q .sum) (d .on)) 64 (λ q. eqb (q .sum) (d .on + d .unknown)) (p ∷ ps)
+-- whether a pair says that the centre is off or on
+abbrev pub saysCentre : Bool → Pair → Bool
+saysCentre b p = is b (p .centre)
 
-abbrev pub code : Rule → Parts → ℕ
-code r d = codeBy r d (fitting r d)
+-- whether a pair says that the successor is off or on
+abbrev pub saysSuccessor : (Bool → ℕ → Bool) → Bool → Pair → Bool
+saysSuccessor rule b p = is b (rule (p .centre) (p .sum))
 
--- the place of a descriptor's code in the table
-abbrev pub index : Parts → ℕ
-index d = ((numberOf (d .centre) * 9 + d .on) * 9 + d .unknown) * 3 + numberOf (d .successor)
+-- the sum where all unknown neighbours are off, or all on
+abbrev pub edge : Parts → Bool → ℕ
+edge d false = d .on
+edge d true = d .on + d .unknown
 
--- the descriptor whose code stands at a place
-abbrev pub partsAt : ℕ → Parts
-partsAt i = record { centre = valueOf (i / 243); on = i / 27 % 9; unknown = i / 3 % 9; successor = valueOf (i % 3) }
+-- whether a pair says that all unknown neighbours are off, or all on
+abbrev pub saysNeighbours : Parts → Bool → Pair → Bool
+saysNeighbours d b p = eqb (p .sum) (edge d b)
 
--- the code at a place of the table: 0 where more than 8 neighbours are on or unknown
-unfoldable pub codeAt : Rule → ℕ → ℕ
-codeAt r i = cond (leb (partsAt i .on + partsAt i .unknown) 8) (code r (partsAt i)) 0
+-- one weight where every pair says off and another where every pair says on; none for a part that is not open
+abbrev pub forced : Bool → ℕ → ℕ → (Bool → Pair → Bool) → List Pair → ℕ
+forced opened off on says ps = cond opened (cond (every (says false) ps) off 0 + cond (every (says true) ps) on 0) 0
+
+-- the code of a descriptor with these fitting pairs: 1 for a contradiction, where there is none, or what they force
+abbrev pub codeBy : (Bool → ℕ → Bool) → Parts → List Pair → ℕ
+codeBy rule d ps =
+    cond (isEmpty ps) 1
+    (forced (isUnknown (d .centre)) 2 4 saysCentre ps
+    + forced (isUnknown (d .successor)) 8 16 (saysSuccessor rule) ps
+    + forced (ltb 0 (d .unknown)) 32 64 (saysNeighbours d) ps)
+
+abbrev pub code : (Bool → ℕ → Bool) → Parts → ℕ
+code rule d = codeBy rule d (fitting rule d)

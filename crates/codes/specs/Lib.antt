@@ -1,2 +1,5 @@
 pub mod Codes
+pub mod Commons
+pub mod Life
+pub mod Tables
 pub mod Values

@@ -1,11 +1,17 @@
 ghost use Prim.Native.Nat.{ℕ, _+_, _*_, _<_, _≤_};
-ghost use Rattle.codes.specs.Codes.{index, partsOf};
+ghost use Rattle.codes.specs.Codes.{Parts, code, fitting, isUnknown, partsOf};
+ghost use Rattle.codes.specs.Commons.{Gathers, commonOf};
+ghost use Rattle.codes.specs.Tables.{index};
 ghost use Rattle.codes.specs.Values.{numberOf, agrees};
+ghost use Rattle.rules.specs.Answers.{answer};
 ghost use Rattle.std.specs.Options.{Cases};
+ghost use mathlib.Core.Bool.{Bool, true, false, cond, _&&_};
+ghost use mathlib.Core.List.{[]};
 ghost use mathlib.Core.Path.{_≡_};
+use crate::common::Common;
+use crate::common::Verdict;
 use crate::descriptor::Descriptor;
 use crate::value::Value;
-use crate::value::ValuePartialEq;
 use rules::Rule;
 
 // The code of a descriptor that no filling of its unknown cells completes.
@@ -30,6 +36,15 @@ impl Value {
         match self {
             Value::Off => !state,
             Value::On => state,
+            Value::Unknown => true,
+        }
+    }
+
+    fn is_unknown(&self) -> bool
+        ensures { λ r. ⌜ r ≡ isUnknown (now (self .entry)) ⌝ }
+    {
+        match self {
+            Value::Off | Value::On => false,
             Value::Unknown => true,
         }
     }
@@ -61,91 +76,100 @@ impl Descriptor {
     }
 }
 
-// What all fitting pairs seen so far have in common.
-#[derive(Clone, Copy)]
-struct Common {
-    some: bool,
-    centre_off: bool,
-    centre_on: bool,
-    answer_off: bool,
-    answer_on: bool,
-    sum_low: bool,
-    sum_high: bool,
+impl Verdict {
+    // Before the first pair.
+    fn start() -> Verdict
+        ensures { λ r. ⌜ r ≡ record { off = true; on = true } ⌝ }
+    {
+        Verdict { off: true, on: true }
+    }
+
+    // With one pair more, which says off, or on, or neither.
+    fn with(self, off: bool, on: bool) -> Verdict
+        ensures { λ r. ⌜ r ≡ record { off = off && self .off; on = on && self .on } ⌝ }
+    {
+        Verdict {
+            off: off && self.off,
+            on: on && self.on,
+        }
+    }
+
+    // The weight of what every pair says of a part, unless the part is not open.
+    fn weight(self, opened: bool, off: u8, on: u8) -> u8
+        requires { ⌜ off + on < 256 ⌝ }
+        ensures { λ r. ⌜ r ≡ cond opened (cond (self .off) off 0 + cond (self .on) on 0) 0 ⌝ }
+    {
+        if !opened {
+            return 0;
+        }
+        let off_weight = if self.off { off } else { 0 };
+        let on_weight = if self.on { on } else { 0 };
+        off_weight + on_weight
+    }
 }
 
 impl Common {
     // Before the first pair.
-    fn start() -> Common {
+    fn start() -> Common
+        ensures { λ r. ⌜ ((rule : Bool → ℕ → Bool) (d : Parts) → r ≡ commonOf rule d []) ⌝ }
+    {
+        let open = Verdict::start();
         Common {
-            some: false,
-            centre_off: true,
-            centre_on: true,
-            answer_off: true,
-            answer_on: true,
-            sum_low: true,
-            sum_high: true,
+            none: true,
+            centre: open,
+            successor: open,
+            neighbours: open,
         }
     }
 
-    // With one pair more, of a centre, its answer, and whether its sum is the lowest or the highest.
-    fn with(self, centre: bool, answer: bool, low: bool, high: bool) -> Common {
+    // With a pair more, if it fits.
+    fn with(self, rule: &Rule, descriptor: &Descriptor, centre: bool, sum: u32) -> Common
+        requires { ⌜ sum ≤ 8 ⌝ }
+        ensures {
+            λ r. ⌜ Gathers (answer (now (rule .entry))) (partsOf (now (descriptor .entry))) (record { centre = centre; sum = sum }) self r ⌝
+        }
+    {
+        let next = rule.answer(centre, sum);
+        if !descriptor.centre.admits(centre) || !descriptor.successor.admits(next) {
+            return self;
+        }
+        let high = descriptor.on + descriptor.unknown;
         Common {
-            some: true,
-            centre_off: self.centre_off && !centre,
-            centre_on: self.centre_on && centre,
-            answer_off: self.answer_off && !answer,
-            answer_on: self.answer_on && answer,
-            sum_low: self.sum_low && low,
-            sum_high: self.sum_high && high,
+            none: false,
+            centre: self.centre.with(!centre, centre),
+            successor: self.successor.with(!next, next),
+            neighbours: self.neighbours.with(sum == descriptor.on, sum == high),
         }
     }
 
-    // The code of a descriptor whose fitting pairs have this in common.
-    fn code(self, descriptor: &Descriptor) -> u8 {
-        if !self.some {
-            return CONTRADICTION;
+    // What all fitting pairs of a descriptor have in common.
+    fn of(rule: &Rule, descriptor: &Descriptor) -> Common
+        ensures {
+            λ r. ⌜ r ≡ commonOf (answer (now (rule .entry))) (partsOf (now (descriptor .entry)))
+                (fitting (answer (now (rule .entry))) (partsOf (now (descriptor .entry)))) ⌝
         }
-        let mut code = 0;
-        if descriptor.centre == Value::Unknown {
-            code += pick(self.centre_off, 2) + pick(self.centre_on, 4);
+    {
+        let mut common = Common::start();
+        for more in 0..descriptor.unknown + 1 {
+            let sum = descriptor.on + more;
+            common = common.with(rule, descriptor, true, sum);
+            common = common.with(rule, descriptor, false, sum);
         }
-        if descriptor.successor == Value::Unknown {
-            code += pick(self.answer_off, 8) + pick(self.answer_on, 16);
-        }
-        if descriptor.unknown > 0 {
-            code += pick(self.sum_low, 32) + pick(self.sum_high, 64);
-        }
-        code
+        common
     }
-}
-
-fn pick(taken: bool, weight: u8) -> u8
-    ensures { λ r. ⌜ r ≤ weight ⌝ }
-{
-    if taken { weight } else { 0 }
-}
-
-// Adds the fitting pairs of one centre.
-fn with_centre(rule: &Rule, descriptor: &Descriptor, centre: bool, before: Common) -> Common {
-    let mut common = before;
-    if !descriptor.centre.admits(centre) {
-        return common;
-    }
-    let low = descriptor.on;
-    let high = low + descriptor.unknown;
-    for sum in low..high + 1 {
-        let answer = rule.answer(centre, sum);
-        if descriptor.successor.admits(answer) {
-            common = common.with(centre, answer, sum == low, sum == high);
-        }
-    }
-    common
 }
 
 // What a descriptor forces under a rule: 1 for a contradiction, or a sum of 2 centre off, 4 centre
 // on, 8 successor off, 16 successor on, 32 unknown neighbours off, 64 unknown neighbours on.
-pub fn code_of(rule: &Rule, descriptor: &Descriptor) -> u8 {
-    let common = with_centre(rule, descriptor, false, Common::start());
-    let common = with_centre(rule, descriptor, true, common);
-    common.code(descriptor)
+pub fn code_of(rule: &Rule, descriptor: &Descriptor) -> u8
+    ensures { λ r. ⌜ r ≡ code (answer (now (rule .entry))) (partsOf (now (descriptor .entry))) ⌝ }
+{
+    let common = Common::of(rule, descriptor);
+    if common.none {
+        return CONTRADICTION;
+    }
+    let centre = common.centre.weight(descriptor.centre.is_unknown(), 2, 4);
+    let successor = common.successor.weight(descriptor.successor.is_unknown(), 8, 16);
+    let neighbours = common.neighbours.weight(descriptor.unknown > 0, 32, 64);
+    centre + successor + neighbours
 }

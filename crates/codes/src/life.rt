@@ -1,5 +1,11 @@
+ghost use Prim.Native.Nat.{ℕ};
+ghost use Rattle.codes.specs.Life.{WorkedCodes, lifeAnswer};
+ghost use Rattle.codes.specs.Tables.{codeAt, codeIn};
+ghost use mathlib.Core.Path.{_≡_};
+use crate::table::Table;
+
 // The 729 codes of B3/S23 by index, a row of 27 for each centre and count of neighbours on.
-pub(crate) const LIFE_CODES: [u8; 729] = [
+const LIFE_CODES: [u8; 729] = [
     0,
     1,
     8,
@@ -730,3 +736,18 @@ pub(crate) const LIFE_CODES: [u8; 729] = [
     0,
     0,
 ];
+
+// The table of B3/S23.
+pub(crate) fn life_table() -> Table
+    ensures { λ r. ⌜ ((i : ℕ) → codeIn r i ≡ codeAt lifeAnswer i) ⌝ }
+{
+    let codes = LIFE_CODES;
+    Table { codes }
+}
+
+// Codes of B3/S23 worked out by hand are those of its table.
+pub fn worked_codes_stand() -> u8
+    ensures { λ _. ⌜ WorkedCodes ⌝ }
+{
+    0
+}

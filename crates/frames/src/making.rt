@@ -102,6 +102,7 @@ impl Frame {
     pub fn number_of(&self, cell: Cell) -> Option<u32>
         ensures value { λ r. ⌜ r ≡ numberAt (now (self .entry)) cell ⌝ }
         ensures bound { λ r. ⌜ found r (λ n. n < cells (now (self .entry))) ⌝ }
+        ensures back { λ r. ⌜ found r (λ n. cellAt (now (self .entry)) n ≡ cell) ⌝ }
     {
         if cell.x >= self.width || cell.y >= self.height || cell.t >= self.period {
             return None;
@@ -112,6 +113,7 @@ impl Frame {
     // The cell of a number; none where there is no such cell.
     pub fn cell_at(&self, number: u32) -> Option<Cell>
         ensures inside { λ r. ⌜ found r (λ c. (c .x < now (self .entry) .width) × (c .y < now (self .entry) .height) × (c .t < now (self .entry) .period)) ⌝ }
+        ensures back { λ r. ⌜ found r (λ c. numberAt (now (self .entry)) c ≡ Some number) ⌝ }
         ensures value { λ r. ⌜ r ≡ cond (ltb number (cells (now (self .entry)))) (Some (cellAt (now (self .entry)) number)) None ⌝ }
     {
         if number >= self.cells() {

@@ -1,8 +1,9 @@
 ghost use Prim.Native.Nat.{ℕ, _+_, _<_, _≤_};
 ghost use Rattle.frames.specs.Frames.{cells, numberAt};
 ghost use Rattle.planes.specs.Layers.{oneMore, layered};
-ghost use Rattle.planes.specs.Pins.{pinned, ownTie};
+ghost use Rattle.planes.specs.Pins.{pinned, ownTie, holding, fixedCell};
 ghost use Rattle.planes.specs.Ties.{Within};
+ghost use Rattle.std.specs.Results.{Cases};
 ghost use Rattle.planes.specs.declared.tie.Tie.the-variants.{Free};
 ghost use lib.ListN.{length, take};
 ghost use mathlib.Core.List.{[]};
@@ -44,7 +45,11 @@ impl<S: Space> Fixed<S> {
     }
 
     // Fixes one cell more.
-    pub fn fix(&mut self, x: u32, y: u32, t: u32, on: bool) -> Result<(), FixFault> {
+    pub fn fix(&mut self, x: u32, y: u32, t: u32, on: bool) -> Result<(), FixFault>
+        ensures pins { λ r. ⌜ holding (take (now (self .exit) .held) (now (self .exit) .pins)) r ≡ fixedCell (S·Plane .means (now (self .entry) .below) .frame) (take (now (self .entry) .held) (now (self .entry) .pins)) x y t on ⌝ }
+        ensures below { λ r. ⌜ now (self .exit) .below ≡ now (self .entry) .below ⌝ }
+        ensures refused { λ r. ⌜ Cases r (λ _. Unit {0}) (λ _. now (self .exit) ≡ now (self .entry)) ⌝ }
+    {
         let Some(cell) = self.below.frame().number_of(Cell { x, y, t }) else {
             return Err(FixFault::NoCell);
         };

@@ -1,0 +1,2 @@
+mod LifeRule
+mod Tables

@@ -1,0 +1,4 @@
+pub mod Chains
+pub mod Dictionary
+pub mod Generations
+pub mod Worked

@@ -1,0 +1,4 @@
+pub mod Examples
+pub mod Joined
+pub mod Laws
+pub mod Rolls
