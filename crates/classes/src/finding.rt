@@ -1,6 +1,7 @@
 ghost use Prim.Native.Nat.{ℕ, _+_, _*_, _<_, _≤_};
-ghost use Rattle.classes.specs.Labels.{Low};
+ghost use Rattle.classes.specs.Labels.{Low, joinedLabels};
 ghost use Rattle.frames.specs.Frames.{cells};
+ghost use Rattle.std.specs.Iters.{counting};
 ghost use Rattle.std.specs.Of.Vec.{vec-items, vec-len};
 ghost use Rattle.std.specs.Vec.{made};
 ghost use lib.ListN.{getD, length};
@@ -19,8 +20,7 @@ use std::alloc::Global;
 // Each cell with its own number as its label.
 fn own_labels(heap: Global, cells: u32) -> Result<Vec<u16>, AllocError>
     requires { ⌜ cells ≤ 4096 ⌝ }
-    ensures len { λ r. ⌜ made r (λ v. vec-len v ≡ cells) ⌝ }
-    ensures low { λ r. ⌜ made r (λ v. Low (vec-items v)) ⌝ }
+    ensures { λ r. ⌜ made r (λ v. vec-items v ≡ counting 0 cells) ⌝ }
 {
     let mut labels = Vec::new(heap);
     for cell in 0..cells {
@@ -31,8 +31,9 @@ fn own_labels(heap: Global, cells: u32) -> Result<Vec<u16>, AllocError>
 
 // Unites cells by every tie to another cell.
 fn join_all<S: Space>(labels: &mut [u16], space: &S)
-    requires { ⌜ length (now labels) ≡ cells (S·Plane .means (now space) .frame) ⌝ ∗ ⌜ Low (now labels) ⌝ }
-    ensures { λ _. ⌜ length (now (labels .exit)) ≡ length (now (labels .entry)) ⌝ ∗ ⌜ Low (now (labels .exit)) ⌝ }
+    requires { ⌜ now labels ≡ counting 0 (cells (S·Plane .means (now space) .frame)) ⌝ }
+    ensures value { λ _. ⌜ now (labels .exit) ≡ joinedLabels (S·Plane .means (now (space .entry)) .frame) (S·Space .count (now (space .entry))) (S·Space .tied (now (space .entry))) ⌝ }
+    ensures low { λ _. ⌜ Low (now (labels .exit)) ⌝ }
 {
     let cells = space.frame().cells();
     for tie in 0..space.rows() * cells {
@@ -43,6 +44,7 @@ fn join_all<S: Space>(labels: &mut [u16], space: &S)
 
 // The labels of the cells once every tie to another cell has joined two of them.
 fn joined_labels<S: Space>(heap: Global, space: &S) -> Result<Vec<u16>, AllocError>
+    ensures value { λ r. ⌜ made r (λ v. vec-items v ≡ joinedLabels (S·Plane .means (now (space .entry)) .frame) (S·Space .count (now (space .entry))) (S·Space .tied (now (space .entry)))) ⌝ }
     ensures len { λ r. ⌜ made r (λ v. vec-len v ≡ cells (S·Plane .means (now (space .entry)) .frame)) ⌝ }
     ensures low { λ r. ⌜ made r (λ v. Low (vec-items v)) ⌝ }
 {

@@ -1,6 +1,7 @@
 // The classes of a space: cells that chains of ties ask to be the same, and what is asked of each.
 mod classes;
 mod finding;
+mod laws;
 mod musts;
 mod numbering;
 mod reading;
@@ -9,3 +10,4 @@ mod uniting;
 pub use classes::Classes;
 pub use classes::Musts;
 pub use finding::classes_of;
+pub use laws::labels_stand;

@@ -1,7 +1,7 @@
 use mathlib.Core.Path.{_≡_}
-use Rattle.std.specs.Of.Vec.{vec-len, vec-items}
-use Rattle.classes.specs.Labels.{Low}
+use Rattle.std.specs.Iters.{counting}
+use Rattle.std.specs.Of.Vec.{vec-items}
 use Rattle.classes.proofs.finding.own_labels.Given as given
 
 abbrev pub Inv-loop-cell : given.InvT-loop-cell
-Inv-loop-cell l = (vec-len (l .labels) ≡ l .cell) × Low (vec-items (l .labels))
+Inv-loop-cell l = vec-items (l .labels) ≡ counting 0 (l .cell)

@@ -1,6 +1,8 @@
-use Prim.Native.Nat.{ℕ, _<_, _≤_}
-use lib.ListN.{getD, length}
+use mathlib.Core.Path.{_≡_}
+use mathlib.Core.List.{map, _++_}
+use lib.ListN.{take, drop}
+use Rattle.classes.specs.Labels.{renamed}
 use Rattle.classes.proofs.uniting.unite.Given as given
 
 abbrev pub Inv-loop-label : given.InvT-loop-label
-Inv-loop-label l = (k : ℕ) → k < length (l .labels) → getD (l .labels) k 0 ≤ getD (l .entry .labels) k 0
+Inv-loop-label l = l .labels ≡ map (renamed (l .low) (l .high)) (take (l .label-index) (l .entry .labels)) ++ drop (l .label-index) (l .entry .labels)
