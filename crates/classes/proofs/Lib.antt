@@ -1,3 +1,4 @@
 pub mod Places
 pub mod United
 pub mod Joining
+pub mod Numbered

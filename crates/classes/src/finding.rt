@@ -1,5 +1,6 @@
 ghost use Prim.Native.Nat.{ℕ, _+_, _*_, _<_, _≤_};
 ghost use Rattle.classes.specs.Labels.{Low, joinedLabels};
+ghost use Rattle.classes.specs.Numbers.{Numbers, numbersOf};
 ghost use Rattle.frames.specs.Frames.{cells};
 ghost use Rattle.std.specs.Iters.{counting};
 ghost use Rattle.std.specs.Of.Vec.{vec-items, vec-len};
@@ -58,6 +59,7 @@ fn numbered(heap: Global, joined: &[u16]) -> Result<Numbering, AllocError>
     requires { ⌜ Low (now joined) ⌝ ∗ ⌜ length (now joined) ≤ 4096 ⌝ }
     ensures len { λ r. ⌜ made r (λ n. vec-len (n .labels) ≡ length (now (joined .entry))) ⌝ }
     ensures fewer { λ r. ⌜ made r (λ n. vec-len (n .lowest) ≤ length (now (joined .entry))) ⌝ }
+    ensures value { λ r. ⌜ made r (λ n. _≡_ {A = Numbers} (record { classes = vec-items (n .labels); lowest = vec-items (n .lowest) }) (numbersOf (now (joined .entry)))) ⌝ }
 {
     let mut numbering = Numbering::new(heap);
     for label in joined {
@@ -68,7 +70,8 @@ fn numbered(heap: Global, joined: &[u16]) -> Result<Numbering, AllocError>
 
 // The classes of a space: its cells joined by chains of ties to other cells.
 pub fn classes_of<S: Space>(heap: Global, space: &S) -> Result<Classes, AllocError>
-    ensures { λ r. ⌜ made r (λ c. vec-len (c .labels) ≡ cells (S·Plane .means (now (space .entry)) .frame)) ⌝ }
+    ensures len { λ r. ⌜ made r (λ c. vec-len (c .labels) ≡ cells (S·Plane .means (now (space .entry)) .frame)) ⌝ }
+    ensures numbers { λ r. ⌜ made r (λ c. _≡_ {A = Numbers} (record { classes = vec-items (c .labels); lowest = vec-items (c .lowest) }) (numbersOf (joinedLabels (S·Plane .means (now (space .entry)) .frame) (S·Space .count (now (space .entry))) (S·Space .tied (now (space .entry)))))) ⌝ }
 {
     let joined = joined_labels(heap, space)?;
     let Numbering { labels, lowest } = numbered(heap, joined.as_slice())?;

@@ -1,7 +1,9 @@
 ghost use Prim.Native.Nat.{ℕ, _+_, _<_, _≤_};
 ghost use Rattle.classes.specs.Labels.{Numbered};
+ghost use Rattle.classes.specs.Numbers.{Numbers, nextClass, nextLowest, numberedToo};
 ghost use Rattle.std.specs.Of.Vec.{vec-items, vec-len};
 ghost use Rattle.std.specs.Vec.{made};
+ghost use mathlib.Core.List.{[], _∷_, _++_};
 ghost use mathlib.Core.Path.{_≡_};
 use std::alloc::AllocError;
 use std::alloc::Global;
@@ -16,7 +18,7 @@ pub(crate) struct Numbering {
 
 impl Numbering {
     pub(crate) fn new(heap: Global) -> Numbering
-        ensures { λ r. ⌜ vec-len (r .labels) ≡ 0 ⌝ ∗ ⌜ vec-len (r .lowest) ≡ 0 ⌝ }
+        ensures { λ r. ⌜ vec-items (r .labels) ≡ [] ⌝ ∗ ⌜ vec-items (r .lowest) ≡ [] ⌝ }
     {
         Numbering {
             labels: Vec::new(heap),
@@ -28,6 +30,7 @@ impl Numbering {
     fn begin(&mut self, cell: u16) -> Result<u16, AllocError>
         requires { ⌜ vec-len (now self .lowest) < 4096 ⌝ }
         ensures len { λ r. ⌜ made r (λ class. (class ≡ vec-len (now (self .entry) .lowest)) × (vec-len (now (self .exit) .lowest) ≡ class + 1)) ⌝ }
+        ensures lowest { λ r. ⌜ made r (λ _. vec-items (now (self .exit) .lowest) ≡ vec-items (now (self .entry) .lowest) ++ cell ∷ []) ⌝ }
         ensures same { λ r. ⌜ now (self .exit) .labels ≡ now (self .entry) .labels ⌝ }
     {
         let class = self.lowest.len() as u16;
@@ -41,6 +44,8 @@ impl Numbering {
         requires { ⌜ label ≤ vec-len (now self .labels) ⌝ ∗ ⌜ vec-len (now self .labels) < 4096 ⌝ ∗ ⌜ vec-len (now self .lowest) < 4096 ⌝ }
         ensures below { λ r. ⌜ made r (λ class. class < vec-len (now (self .exit) .lowest)) ⌝ }
         ensures fewer { λ r. ⌜ made r (λ _. vec-len (now (self .exit) .lowest) ≤ vec-len (now (self .entry) .lowest) + 1) ⌝ }
+        ensures value { λ r. ⌜ made r (λ class. class ≡ nextClass (record { classes = vec-items (now (self .entry) .labels); lowest = vec-items (now (self .entry) .lowest) }) label) ⌝ }
+        ensures lowest { λ r. ⌜ made r (λ _. vec-items (now (self .exit) .lowest) ≡ nextLowest (record { classes = vec-items (now (self .entry) .labels); lowest = vec-items (now (self .entry) .lowest) }) label) ⌝ }
         ensures same { λ r. ⌜ now (self .exit) .labels ≡ now (self .entry) .labels ⌝ }
     {
         let cell = self.labels.len() as u16;
@@ -55,6 +60,7 @@ impl Numbering {
         requires { ⌜ label ≤ vec-len (now self .labels) ⌝ ∗ ⌜ vec-len (now self .lowest) ≤ vec-len (now self .labels) ⌝ ∗ ⌜ vec-len (now self .labels) < 4096 ⌝ }
         ensures len { λ r. ⌜ made r (λ _. vec-len (now (self .exit) .labels) ≡ vec-len (now (self .entry) .labels) + 1) ⌝ }
         ensures fewer { λ r. ⌜ made r (λ _. vec-len (now (self .exit) .lowest) ≤ vec-len (now (self .entry) .lowest) + 1) ⌝ }
+        ensures value { λ r. ⌜ made r (λ _. _≡_ {A = Numbers} (record { classes = vec-items (now (self .exit) .labels); lowest = vec-items (now (self .exit) .lowest) }) (numberedToo (record { classes = vec-items (now (self .entry) .labels); lowest = vec-items (now (self .entry) .lowest) }) label)) ⌝ }
     {
         let class = self.next_class(label)?;
         self.labels.push(class)?;

@@ -1,4 +1,7 @@
-use mathlib.Core.Path.{_≡_}
+use mathlib.Core.Path.{_≡_, sym, _∙_}
+use mathlib.Core.Bool.{false}
+use lib.Dec.{eqb}
+use Rattle.std.proofs.shelf.Tests.{ne-eqb, cond-false}
 use Prim.Native.Nat.{_<_}
 use native.Mathlib.Omega.{arith}
 use borrow.Author.Needs.{needs}
@@ -12,4 +15,11 @@ returns c =
     let was = c .args .self .now in
     let h : c .index .result .now ≡ getD (vec-items (was .labels)) (c .args .label) 0 = search (needs, getD-read) in
     let inside : c .args .label < length (vec-items (was .labels)) = omega (arith, was .labels .ok .0) in
-    record { below = simp h (was .below (c .args .label) inside); fewer = search needs; same = search needs }
+    let joins : eqb (c .args .label) (length (vec-items (was .labels))) ≡ false = ne-eqb _ _ (λ e. omega (arith, e, inside)) in
+    record {
+      below = simp h (was .below (c .args .label) inside);
+      fewer = search needs;
+      value = h ∙ sym (cond-false _ _ _ joins);
+      lowest = sym (cond-false _ _ _ joins);
+      same = search needs;
+    }
