@@ -2,3 +2,4 @@ pub mod Places
 pub mod United
 pub mod Joining
 pub mod Numbered
+pub mod Asking

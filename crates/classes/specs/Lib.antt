@@ -1,3 +1,4 @@
+pub mod Asked
 pub mod Joins
 pub mod Labels
 pub mod Numbers

@@ -1,4 +1,5 @@
 ghost use Prim.Native.Nat.{ℕ, _+_, _*_, _<_, _≤_};
+ghost use Rattle.classes.specs.Asked.{askedAfter, freeAmong};
 ghost use Rattle.classes.specs.Labels.{Low, joinedLabels};
 ghost use Rattle.classes.specs.Numbers.{Numbers, numbersOf};
 ghost use Rattle.frames.specs.Frames.{cells};
@@ -72,6 +73,8 @@ fn numbered(heap: Global, joined: &[u16]) -> Result<Numbering, AllocError>
 pub fn classes_of<S: Space>(heap: Global, space: &S) -> Result<Classes, AllocError>
     ensures len { λ r. ⌜ made r (λ c. vec-len (c .labels) ≡ cells (S·Plane .means (now (space .entry)) .frame)) ⌝ }
     ensures numbers { λ r. ⌜ made r (λ c. _≡_ {A = Numbers} (record { classes = vec-items (c .labels); lowest = vec-items (c .lowest) }) (numbersOf (joinedLabels (S·Plane .means (now (space .entry)) .frame) (S·Space .count (now (space .entry))) (S·Space .tied (now (space .entry)))))) ⌝ }
+    ensures musts { λ r. ⌜ made r (λ c. vec-items (c .musts) ≡ askedAfter (S·Space .tied (now (space .entry))) (cells (S·Plane .means (now (space .entry)) .frame)) (vec-items (c .labels)) (vec-len (c .lowest)) (S·Space .count (now (space .entry)) * cells (S·Plane .means (now (space .entry)) .frame))) ⌝ }
+    ensures free { λ r. ⌜ made r (λ c. c .free ≡ freeAmong (vec-items (c .musts))) ⌝ }
 {
     let joined = joined_labels(heap, space)?;
     let Numbering { labels, lowest } = numbered(heap, joined.as_slice())?;

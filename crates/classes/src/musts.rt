@@ -3,7 +3,9 @@ ghost use Rattle.classes.specs.Labels.{Numbered};
 ghost use Rattle.frames.specs.Frames.{cells};
 ghost use Rattle.std.specs.Of.Vec.{vec-items, vec-len};
 ghost use Rattle.std.specs.Vec.{made};
-ghost use lib.ListN.{length};
+ghost use Rattle.classes.specs.Asked.{askedAfter, askedBy, freeAmong, unasked};
+ghost use lib.ListN.{length, replicate};
+ghost use mathlib.Core.Bool.{cond, _||_};
 ghost use mathlib.Core.Path.{_≡_};
 use crate::classes::Musts;
 use planes::Plane;
@@ -14,7 +16,8 @@ use std::alloc::Global;
 
 // Nothing asked of any of so many classes.
 pub(crate) fn no_musts(heap: Global, classes: usize) -> Result<Vec<Musts>, AllocError>
-    ensures { λ r. ⌜ made r (λ v. vec-len v ≡ classes) ⌝ }
+    ensures len { λ r. ⌜ made r (λ v. vec-len v ≡ classes) ⌝ }
+    ensures value { λ r. ⌜ made r (λ v. vec-items v ≡ replicate classes unasked) ⌝ }
 {
     let mut musts = Vec::new(heap);
     for _ in 0..classes {
@@ -29,12 +32,13 @@ pub(crate) fn no_musts(heap: Global, classes: usize) -> Result<Vec<Musts>, Alloc
 // Notes what a tie asks of a class.
 fn note(musts: &mut [Musts], class: u16, tie: Tie)
     requires { ⌜ class < length (now musts) ⌝ }
-    ensures { λ _. ⌜ length (now (musts .exit)) ≡ length (now (musts .entry)) ⌝ }
+    ensures { λ _. ⌜ now (musts .exit) ≡ askedBy (now (musts .entry)) class tie ⌝ }
 {
     let class = class as usize;
+    let before = musts[class];
     match tie {
-        Tie::Off => musts[class].off = true,
-        Tie::On => musts[class].on = true,
+        Tie::Off => musts[class] = Musts { off: true, on: before.on },
+        Tie::On => musts[class] = Musts { off: before.off, on: true },
         _ => {}
     }
 }
@@ -42,7 +46,8 @@ fn note(musts: &mut [Musts], class: u16, tie: Tie)
 // Notes what every tie asks of its cell's class.
 pub(crate) fn note_all<S: Space>(musts: &mut [Musts], labels: &[u16], space: &S)
     requires { ⌜ length (now labels) ≡ cells (S·Plane .means (now space) .frame) ⌝ ∗ ⌜ Numbered (length (now musts)) (now labels) ⌝ }
-    ensures { λ _. ⌜ length (now (musts .exit)) ≡ length (now (musts .entry)) ⌝ }
+    ensures len { λ _. ⌜ length (now (musts .exit)) ≡ length (now (musts .entry)) ⌝ }
+    ensures value { λ _. ⌜ (now (musts .entry) ≡ replicate (length (now (musts .entry))) unasked → now (musts .exit) ≡ askedAfter (S·Space .tied (now (space .entry))) (cells (S·Plane .means (now (space .entry)) .frame)) (now (labels .entry)) (length (now (musts .entry))) (S·Space .count (now (space .entry)) * cells (S·Plane .means (now (space .entry)) .frame))) ⌝ }
 {
     let cells = space.frame().cells();
     for tie in 0..space.rows() * cells {
@@ -51,16 +56,23 @@ pub(crate) fn note_all<S: Space>(musts: &mut [Musts], labels: &[u16], space: &S)
     }
 }
 
+// 1 for a class that nothing is asked of, else 0.
+fn free_one(musts: &Musts) -> u32
+    ensures value { λ r. ⌜ r ≡ cond (now (musts .entry) .off || now (musts .entry) .on) 0 1 ⌝ }
+    ensures bound { λ r. ⌜ r ≤ 1 ⌝ }
+{
+    if musts.off || musts.on { 0 } else { 1 }
+}
+
 // How many classes nothing is asked of.
 pub(crate) fn count_free(musts: &[Musts]) -> u32
     requires { ⌜ length (now musts) ≤ 4096 ⌝ }
-    ensures { λ r. ⌜ r ≤ length (now (musts .entry)) ⌝ }
+    ensures bound { λ r. ⌜ r ≤ length (now (musts .entry)) ⌝ }
+    ensures value { λ r. ⌜ r ≡ freeAmong (now (musts .entry)) ⌝ }
 {
     let mut free = 0;
     for must in musts {
-        if !must.off && !must.on {
-            free += 1;
-        }
+        free += free_one(must);
     }
     free
 }
