@@ -1,14 +1,14 @@
 -- What is asked of classes, tie by tie.
 use mathlib.Core.Path.{_≡_, refl, sym, ap, _∙_}
-use mathlib.Core.Bool.{Bool, true, false, cond, _||_}
+use mathlib.Core.Bool.{Bool, true, false, cond, _||_, _&&_}
 use mathlib.Core.List.{List, [], _∷_, _++_}
 use Prim.Native.Nat.{ℕ, zero, suc, _+_, _/_, _%_, _<_, _≤_}
 use native.Mathlib.Numerals.{add-one}
 use native.Mathlib.Omega.{arith}
-use lib.ListN.{length, getD, take, replicate}
-use Rattle.std.proofs.shelf.Lists.{take-more, take-all}
+use lib.ListN.{length, getD, take, drop, replicate}
+use Rattle.std.proofs.shelf.Lists.{take-more, take-all, drop-more, drop-all}
 use Rattle.planes.specs.declared.tie.Tie.{Tie}
-use Rattle.classes.specs.Asked.{unasked, askedBy, askedAfter, freeAmong}
+use Rattle.classes.specs.Asked.{unasked, askedBy, askedAfter, freeAmong, tornAmong}
 use Rattle.classes.specs.declared.classes.Musts.{Musts}
 
 pub replicate-push : (n : ℕ) (m : Musts) → replicate (suc n) m ≡ replicate n m ++ m ∷ []
@@ -33,3 +33,13 @@ free-more ms i old new h e step = step ∙ ap (λ n. n + cond (getD ms i unasked
 
 pub free-all : (ms : List Musts) (i n : ℕ) → length ms ≤ i → n ≡ freeAmong (take i ms) → n ≡ freeAmong ms
 free-all ms i n h e = e ∙ ap freeAmong (take-all i ms h)
+
+module _ (ms : List Musts) (i : ℕ) where
+  pub torn-more : i < length ms → (getD ms i unasked .off && getD ms i unasked .on) ≡ false → tornAmong (drop i ms) ≡ tornAmong (drop (i + 1) ms)
+  torn-more h whole = ap tornAmong (drop-more ms i unasked h) ∙ ap (λ b. b || tornAmong (drop (i + 1) ms)) whole
+
+  pub torn-here : i < length ms → (getD ms i unasked .off && getD ms i unasked .on) ≡ true → tornAmong (drop i ms) ≡ true
+  torn-here h torn = ap tornAmong (drop-more ms i unasked h) ∙ ap (λ b. b || tornAmong (drop (i + 1) ms)) torn
+
+  pub torn-past : length ms ≤ i → tornAmong (drop i ms) ≡ false
+  torn-past h = ap tornAmong (drop-all i ms h)

@@ -1,6 +1,6 @@
 -- What the ties ask of each class, and how many classes nothing is asked of.
 use Prim.Native.Nat.{ℕ, zero, suc, _+_, _*_, _/_, _%_}
-use mathlib.Core.Bool.{Bool, true, false, cond, _||_}
+use mathlib.Core.Bool.{Bool, true, false, cond, _||_, _&&_}
 use mathlib.Core.List.{List, [], _∷_}
 use lib.ListN.{getD, set, replicate}
 use Rattle.planes.specs.declared.tie.Tie.{Tie}
@@ -27,3 +27,8 @@ askedAfter tie size classes count (suc n) = askedBy (askedAfter tie size classes
 abbrev pub freeAmong : List Musts → ℕ
 freeAmong [] = 0
 freeAmong (m ∷ ms) = cond (m .off || m .on) 0 1 + freeAmong ms
+
+-- whether something is asked to be off and on at once
+abbrev pub tornAmong : List Musts → Bool
+tornAmong [] = false
+tornAmong (m ∷ ms) = (m .off && m .on) || tornAmong ms

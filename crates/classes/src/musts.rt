@@ -3,9 +3,9 @@ ghost use Rattle.classes.specs.Labels.{Numbered};
 ghost use Rattle.frames.specs.Frames.{cells};
 ghost use Rattle.std.specs.Of.Vec.{vec-items, vec-len};
 ghost use Rattle.std.specs.Vec.{made};
-ghost use Rattle.classes.specs.Asked.{askedAfter, askedBy, freeAmong, unasked};
+ghost use Rattle.classes.specs.Asked.{askedAfter, askedBy, freeAmong, tornAmong, unasked};
 ghost use lib.ListN.{length, replicate};
-ghost use mathlib.Core.Bool.{cond, _||_};
+ghost use mathlib.Core.Bool.{cond, _&&_, _||_};
 ghost use mathlib.Core.Path.{_≡_};
 use crate::classes::Musts;
 use planes::Plane;
@@ -78,11 +78,20 @@ pub(crate) fn count_free(musts: &[Musts]) -> u32
 }
 
 // Whether something is asked to be off and on at once.
-pub(crate) fn any_torn(musts: &[Musts]) -> bool {
+pub(crate) fn any_torn(musts: &[Musts]) -> bool
+    ensures { λ r. ⌜ r ≡ tornAmong (now (musts .entry)) ⌝ }
+{
     for must in musts {
-        if must.off && must.on {
+        if is_torn(must) {
             return true;
         }
     }
     false
+}
+
+// Whether a class is asked to be off and on at once.
+fn is_torn(musts: &Musts) -> bool
+    ensures { λ r. ⌜ r ≡ (now (musts .entry) .off && now (musts .entry) .on) ⌝ }
+{
+    musts.off && musts.on
 }

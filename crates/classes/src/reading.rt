@@ -1,4 +1,5 @@
 ghost use Prim.Native.Nat.{ℕ, _<_, _≤_};
+ghost use Rattle.classes.specs.Asked.{tornAmong, unasked};
 ghost use Rattle.std.specs.Of.Vec.{vec-items, vec-len};
 ghost use Rattle.std.specs.Options.{Cases};
 ghost use lib.ListN.{getD};
@@ -30,7 +31,9 @@ impl Classes {
     }
 
     // Whether a class is torn: asked to be off and on at once.
-    pub fn torn(&self) -> bool {
+    pub fn torn(&self) -> bool
+        ensures { λ r. ⌜ r ≡ tornAmong (vec-items (now (self .entry) .musts)) ⌝ }
+    {
         any_torn(self.musts.as_slice())
     }
 
@@ -46,7 +49,9 @@ impl Classes {
     }
 
     // What is asked of a class; nothing where there is no such class.
-    pub fn musts(&self, class: usize) -> Musts {
+    pub fn musts(&self, class: usize) -> Musts
+        ensures { λ r. ⌜ r ≡ getD (vec-items (now (self .entry) .musts)) class unasked ⌝ }
+    {
         if class < self.musts.len() {
             self.musts[class]
         } else {
