@@ -1,7 +1,9 @@
-ghost use Prim.Native.Nat.{ℕ, _+_, _/_, _%_, _^_, _<_, _≤_};
+ghost use Prim.Native.Nat.{_+_, _/_, _%_, _<_, _≤_};
 ghost use Rattle.rules.specs.Answers.{answer, holds};
+ghost use Rattle.rules.specs.Forms.{parsed, rising, shown, written, Forms-stand};
+ghost use Rattle.std.specs.Vec.{made};
 ghost use lib.Dec.{eqb};
-ghost use lib.ListN.{length};
+ghost use lib.ListN.{length, drop};
 ghost use mathlib.Core.Bool.{_&&_};
 ghost use mathlib.Core.Path.{_≡_};
 use crate::fault::RuleFault;
@@ -17,7 +19,8 @@ struct Digits {
 // The longest row of rising digits from 0 to 8 that starts at `at`.
 fn rising_digits(text: &[u8], at: usize) -> Digits
     requires { ⌜ at ≤ length (now text) ⌝ }
-    ensures { λ r. ⌜ r .«end» ≤ length (now (text .entry)) ⌝ ∗ ⌜ at ≤ r .«end» ⌝ ∗ ⌜ r .set < 512 ⌝ }
+    ensures bounds { λ r. ⌜ r .«end» ≤ length (now (text .entry)) ⌝ ∗ ⌜ at ≤ r .«end» ⌝ ∗ ⌜ r .set < 512 ⌝ }
+    ensures row { λ r. ⌜ rising 0 0 (drop at (now (text .entry))) ≡ record { set = r .set; rest = drop (r .«end») (now (text .entry)) } ⌝ }
 {
     let mut set: u16 = 0;
     let mut end = at;
@@ -45,7 +48,10 @@ pub(crate) fn holds_digit(set: u16, digit: u8) -> bool
 
 impl Rule {
     // The rule of a text `B`, rising digits, `/S`, rising digits.
-    pub fn parse(text: &[u8]) -> Result<Rule, RuleFault> {
+    pub fn parse(text: &[u8]) -> Result<Rule, RuleFault>
+        ensures value { λ r. ⌜ shown r ≡ parsed (now (text .entry)) ⌝ }
+        ensures form { λ r. ⌜ made r (λ rule. now (text .entry) ≡ written (rule .births) (rule .survivals)) ⌝ }
+    {
         if text.is_empty() || text[0] != b'B' {
             return Err(RuleFault::Form);
         }
@@ -67,6 +73,13 @@ impl Rule {
         })
     }
 
+    // The texts that are rules are the written forms of rules, one for each.
+    pub fn forms_stand() -> u8
+        ensures { λ _. ⌜ Forms-stand ⌝ }
+    {
+        0
+    }
+
     // Whether this is B3/S23.
     pub fn is_life(&self) -> bool
         ensures { λ r. ⌜ r ≡ (eqb (now (self .entry) .births) 8 && eqb (now (self .entry) .survivals) 12) ⌝ }
@@ -76,7 +89,7 @@ impl Rule {
 
     // Whether the centre is on in the next generation.
     pub fn answer(&self, centre: bool, sum: u32) -> bool
-        ensures { λ r. ⌜ (sum ≤ 8 → r ≡ answer (now (self .entry)) centre sum) ⌝ }
+        ensures { λ r. ⌜ r ≡ answer (now (self .entry)) centre sum ⌝ }
     {
         if sum > 8 {
             return false;

@@ -1,5 +1,8 @@
-ghost use Prim.Native.Nat.{ℕ, _+_, _<_, _≤_};
+ghost use Prim.Native.Nat.{_+_, _≤_};
+ghost use Rattle.rules.specs.Forms.{digitsBelow, parsed, setsOf, written};
+ghost use Rattle.std.specs.declared.result.Result.the-variants.{Ok};
 ghost use lib.ListN.{length, take};
+ghost use mathlib.Core.List.{_++_};
 ghost use mathlib.Core.Path.{_≡_};
 use crate::reading::holds_digit;
 use crate::rule::Rule;
@@ -30,7 +33,8 @@ impl RuleText {
 // Writes the digits of a set, lowest first, from `at` on; answers the place after them.
 fn put_digits(bytes: &mut [u8], at: usize, set: u16) -> usize
     requires { ⌜ at + 9 ≤ length (now bytes) ⌝ ∗ ⌜ length (now bytes) ≤ 21 ⌝ }
-    ensures { λ r. ⌜ at ≤ r ⌝ ∗ ⌜ r ≤ at + 9 ⌝ }
+    ensures bounds { λ r. ⌜ at ≤ r ⌝ ∗ ⌜ r ≤ at + 9 ⌝ }
+    ensures digits { λ r. ⌜ take r (now (bytes .exit)) ≡ take at (now (bytes .entry)) ++ digitsBelow 9 set ⌝ }
 {
     let mut end = at;
     for digit in 0..9u8 {
@@ -45,7 +49,9 @@ fn put_digits(bytes: &mut [u8], at: usize, set: u16) -> usize
 impl Rule {
     // The text of the rule, digits rising.
     pub fn text(&self) -> RuleText
-        ensures { λ r. ⌜ 3 ≤ r .len ⌝ }
+        ensures bytes { λ r. ⌜ take (r .len) (r .bytes) ≡ written (now (self .entry) .births) (now (self .entry) .survivals) ⌝ }
+        ensures len { λ r. ⌜ r .len ≡ length (written (now (self .entry) .births) (now (self .entry) .survivals)) ⌝ }
+        ensures back { λ r. ⌜ parsed (take (r .len) (r .bytes)) ≡ Ok (setsOf (now (self .entry))) ⌝ }
     {
         let mut bytes = [0u8; 21];
         bytes[0] = b'B';

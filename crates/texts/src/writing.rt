@@ -1,8 +1,8 @@
-ghost use Prim.Native.Nat.{ℕ, _≤_};
+ghost use Prim.Native.Nat.{_≤_};
+ghost use Rattle.rules.specs.Forms.{written};
 ghost use Rattle.texts.specs.Pages.{Written};
 ghost use Rattle.texts.specs.Texts.{patternText};
 ghost use lib.ListN.{length};
-ghost use mathlib.Core.List.{List};
 use crate::body::body_len;
 use crate::body::write_body;
 use crate::fault::PageFault;
@@ -22,8 +22,9 @@ pub fn write_pattern(
     rule: &Rule,
     pattern: &[bool],
 ) -> Result<usize, PageFault>
-    ensures { λ r. ⌜ ((name : List ℕ) × (length name ≤ 21)
-        × Written (now (page .entry)) at (patternText (now (frame .entry) .width) (now (frame .entry) .height) name (now (pattern .entry))) (now (page .exit)) r) ⌝ }
+    ensures { λ r. ⌜ Written (now (page .entry)) at
+        (patternText (now (frame .entry) .width) (now (frame .entry) .height) (written (now (rule .entry) .births) (now (rule .entry) .survivals)) (now (pattern .entry)))
+        (now (page .exit)) r ⌝ }
 {
     let text = rule.text();
     write_named(page, at, frame, text.as_slice(), pattern)
