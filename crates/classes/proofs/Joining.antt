@@ -25,15 +25,17 @@ use Rattle.classes.proofs.United.{united-lower, low-lowered, counting-low}
 -- both labels become the lower of the two
 first-low : (x y : ℕ) → renamed (min x y) (max x y) x ≡ min x y
 first-low x y =
-    elim (cases-eq x (max x y))
-    [ inl e ↦ cond-true _ (min x y) x (eq-eqb x (max x y) e)
-    | inr ne ↦ cond-false _ (min x y) x (ne-eqb x (max x y) ne) ∙ omega arith ]
+    elim (cases-eq x (max x y)) [
+      | inl e ↦ cond-true _ (min x y) x (eq-eqb x (max x y) e)
+      | inr ne ↦ cond-false _ (min x y) x (ne-eqb x (max x y) ne) ∙ omega arith
+    ]
 
 second-low : (x y : ℕ) → renamed (min x y) (max x y) y ≡ min x y
 second-low x y =
-    elim (cases-eq y (max x y))
-    [ inl e ↦ cond-true _ (min x y) y (eq-eqb y (max x y) e)
-    | inr ne ↦ cond-false _ (min x y) y (ne-eqb y (max x y) ne) ∙ omega arith ]
+    elim (cases-eq y (max x y)) [
+      | inl e ↦ cond-true _ (min x y) y (eq-eqb y (max x y) e)
+      | inr ne ↦ cond-false _ (min x y) y (ne-eqb y (max x y) ne) ∙ omega arith
+    ]
 
 -- the labels once the first n ties have been taken
 record Taken (s : Surface) (n : ℕ) (labels : List ℕ) : Type 0 where
@@ -88,29 +90,32 @@ module _ (s : Surface) (inside : TiesInside s) (some : 0 < cells (s .frame)) whe
 
     high-low : Joined s (max one other) (min one other)
     high-low =
-        elim (cases-lt one other)
-        [ inl less ↦ (let a : other ≡ max one other = omega arith in let b : one ≡ min one other = omega arith in subst (λ x. Joined s x (min one other)) a (subst (λ x. Joined s other x) b (turned labels-joined)))
-        | inr more ↦ (let a : one ≡ max one other = omega arith in let b : other ≡ min one other = omega arith in subst (λ x. Joined s x (min one other)) a (subst (λ x. Joined s one x) b labels-joined)) ]
+        elim (cases-lt one other) [
+          | inl less ↦ (let a : other ≡ max one other = omega arith in let b : one ≡ min one other = omega arith in subst (λ x. Joined s x (min one other)) a (subst (λ x. Joined s other x) b (turned labels-joined)))
+          | inr more ↦ (let a : one ≡ max one other = omega arith in let b : other ≡ min one other = omega arith in subst (λ x. Joined s x (min one other)) a (subst (λ x. Joined s one x) b labels-joined))
+        ]
 
     own-more : (a : ℕ) → a < cells (s .frame) → Joined s a (getD (united labels cell d) a 0)
     own-more a h =
-        elim (cases-eq (getD labels a 0) (max one other))
-        [ inl high ↦ subst (λ x. Joined s a x) (sym (at-map a h ∙ cond-true _ (min one other) (getD labels a 0) (eq-eqb _ _ high))) (chained (subst (λ x. Joined s a x) high (k .own a h)) high-low)
-        | inr other-label ↦ subst (λ x. Joined s a x) (sym (at-map a h ∙ cond-false _ (min one other) (getD labels a 0) (ne-eqb _ _ other-label))) (k .own a h) ]
+        elim (cases-eq (getD labels a 0) (max one other)) [
+          | inl high ↦ subst (λ x. Joined s a x) (sym (at-map a h ∙ cond-true _ (min one other) (getD labels a 0) (eq-eqb _ _ high))) (chained (subst (λ x. Joined s a x) high (k .own a h)) high-low)
+          | inr other-label ↦ subst (λ x. Joined s a x) (sym (at-map a h ∙ cond-false _ (min one other) (getD labels a 0) (ne-eqb _ _ other-label))) (k .own a h)
+        ]
 
     joins : Taken s (suc n) (united labels cell d)
     joins = record {
       long = length-map labels (renamed (min one other) (max one other)) ∙ k .long;
       low = low-lowered labels (united labels cell d) (k .low) (united-lower labels cell d);
       own = own-more;
-      taken = λ t c h q. elim (cases-order t n)
-        [ inl same ↦
+      taken = λ t c h q. elim (cases-order t n) [
+        | inl same ↦
             (let now : s .tie (n / cells (s .frame)) (n % cells (s .frame)) ≡ Same c = subst (λ m. s .tie (m / cells (s .frame)) (m % cells (s .frame)) ≡ Same c) same q in
             let is : c ≡ d = cc in
             let here : getD (united labels cell d) cell 0 ≡ getD (united labels cell d) c 0 = at-map cell cell-in ∙ first-low one other ∙ sym (ap (λ x. getD (united labels cell d) x 0) is ∙ at-map d d-in ∙ second-low one other) in
             subst (λ m. getD (united labels cell d) (m % cells (s .frame)) 0 ≡ getD (united labels cell d) c 0) (sym same) here)
         | inr (inl less) ↦ at-map (t % cells (s .frame)) (mod-below t (cells (s .frame)) some) ∙ ap (renamed (min one other) (max one other)) (k .taken t c less q) ∙ sym (at-map c (named t c (omega arith) q))
-        | inr (inr more) ↦ absurd (omega arith) ];
+        | inr (inr more) ↦ absurd (omega arith)
+      ];
     }
 
   -- one tie more, whatever it asks

@@ -21,9 +21,10 @@ gone-over f xs ys i h e = e ∙ ap (λ l. map f l ++ drop i xs) (take-all i xs h
 
 renamed-le : (low high l : ℕ) → low ≤ high → renamed low high l ≤ l
 renamed-le low high l h =
-    elim (cases-eq l high)
-    [ inl e ↦ subst (λ n. n ≤ l) (sym (cond-true _ low l (eq-eqb l high e))) (omega arith)
-    | inr ne ↦ subst (λ n. n ≤ l) (sym (cond-false _ low l (ne-eqb l high ne))) (omega arith) ]
+    elim (cases-eq l high) [
+      | inl e ↦ subst (λ n. n ≤ l) (sym (cond-true _ low l (eq-eqb l high e))) (omega arith)
+      | inr ne ↦ subst (λ n. n ≤ l) (sym (cond-false _ low l (ne-eqb l high ne))) (omega arith)
+    ]
 
 pub united-lower : (xs : List ℕ) (a b : ℕ) → Lowered xs (united xs a b)
 united-lower xs a b =

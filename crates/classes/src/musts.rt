@@ -37,8 +37,14 @@ fn note(musts: &mut [Musts], class: u16, tie: Tie)
     let class = class as usize;
     let before = musts[class];
     match tie {
-        Tie::Off => musts[class] = Musts { off: true, on: before.on },
-        Tie::On => musts[class] = Musts { off: before.off, on: true },
+        Tie::Off => musts[class] = Musts {
+            off: true,
+            on: before.on,
+        },
+        Tie::On => musts[class] = Musts {
+            off: before.off,
+            on: true,
+        },
         _ => {}
     }
 }

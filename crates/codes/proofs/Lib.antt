@@ -1,2 +1,7 @@
+mod Bits
+mod Completions
+mod Knowing
 mod LifeRule
+mod Only
+mod Pairs
 mod Tables

@@ -1,5 +1,5 @@
 -- The rule whose births are the set 8 and whose survivals the set 12 answers as B3/S23.
-use Prim.Native.Nat.{ℕ, zero, suc, _+_, _/_, _%_, _^_, _<_, _≤_}
+use Prim.Native.Nat.{ℕ, zero, suc, _/_, _%_, _^_, _<_, _≤_}
 use mathlib.Core.Path.{_≡_, refl, sym, _∙_, ap, fun-ext}
 use mathlib.Core.Bool.{Bool, true, false, cond, _&&_}
 use native.Mathlib.Omega.{arith}
@@ -49,9 +49,9 @@ life-answers r e =
     let births = eqb-true (r .births) 8 (parts .0) in
     let survivals = eqb-true (r .survivals) 12 (parts .1) in
     fun-ext (λ centre. fun-ext (λ sum.
-        ap (λ (s : ℕ). cond centre (holds s sum) (holds (r .births) sum)) survivals
-        ∙ ap (λ (s : ℕ). cond centre (holds 12 sum) (holds s sum)) births
-        ∙ life-sums centre sum))
+    ap (λ (s : ℕ). cond centre (holds s sum) (holds (r .births) sum)) survivals
+    ∙ ap (λ (s : ℕ). cond centre (holds 12 sum) (holds s sum)) births
+    ∙ life-sums centre sum))
 
 pub life-table : (i : ℕ) → codeIn (record { codes = map (codeAt lifeAnswer) (counting 0 729) }) i ≡ codeAt lifeAnswer i
 life-table = table-right lifeAnswer (map (codeAt lifeAnswer) (counting 0 729)) (λ k h. getD-map-counting (codeAt lifeAnswer) 0 729 k k 0 h (omega arith))

@@ -1,13 +1,13 @@
 -- What a descriptor forces under a rule, by its fitting pairs, as a code. The rule is given by its
 -- answers: whether a cell is on next, from whether it is on and how many of its neighbours are.
-use Prim.Native.Nat.{ℕ, zero, suc, _+_, _*_, _/_, _%_}
+use Prim.Native.Nat.{ℕ, zero, suc, _+_}
 use mathlib.Core.Bool.{Bool, true, false, not, cond, _&&_}
 use mathlib.Core.List.{List, [], _∷_}
-use lib.Dec.{eqb, leb, ltb}
+use lib.Dec.{eqb, ltb}
 use Rattle.codes.specs.declared.descriptor.Descriptor.{Descriptor}
 use Rattle.codes.specs.declared.value.Value.{Value}
 use Rattle.codes.specs.declared.value.Value.the-variants.{Off, On, Unknown}
-use Rattle.codes.specs.Values.{numberOf, valueOf, agrees}
+use Rattle.codes.specs.Values.{agrees}
 
 -- the four parts of a descriptor, without the proof of its limit
 pub record Parts : Type 0 where
@@ -83,9 +83,9 @@ edge d true = d .on + d .unknown
 abbrev pub saysNeighbours : Parts → Bool → Pair → Bool
 saysNeighbours d b p = eqb (p .sum) (edge d b)
 
--- one weight where every pair says off and another where every pair says on; none for a part that is not open
+-- one weight where every pair says off and another where every pair says on; 0 for a part that is known
 abbrev pub forced : Bool → ℕ → ℕ → (Bool → Pair → Bool) → List Pair → ℕ
-forced opened off on says ps = cond opened (cond (every (says false) ps) off 0 + cond (every (says true) ps) on 0) 0
+forced isOpen off on says ps = cond isOpen (cond (every (says false) ps) off 0 + cond (every (says true) ps) on 0) 0
 
 -- the code of a descriptor with these fitting pairs: 1 for a contradiction, where there is none, or what they force
 abbrev pub codeBy : (Bool → ℕ → Bool) → Parts → List Pair → ℕ

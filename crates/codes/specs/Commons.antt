@@ -12,11 +12,12 @@ verdictOf says ps = record { off = every (says false) ps; on = every (says true)
 
 abbrev pub commonOf : (Bool → ℕ → Bool) → Parts → List Pair → Common
 commonOf rule d ps =
-    record
-      { none = isEmpty ps
-      ; centre = verdictOf saysCentre ps
-      ; successor = verdictOf (saysSuccessor rule) ps
-      ; neighbours = verdictOf (saysNeighbours d) ps }
+    record {
+      none = isEmpty ps;
+      centre = verdictOf saysCentre ps;
+      successor = verdictOf (saysSuccessor rule) ps;
+      neighbours = verdictOf (saysNeighbours d) ps;
+    }
 
 -- what pairs have in common, before and after a pair more that is kept if it fits
 abbrev pub Gathers : (Bool → ℕ → Bool) → Parts → Pair → Common → Common → Type 0

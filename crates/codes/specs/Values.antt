@@ -1,6 +1,6 @@
 -- The number of each value, and the value of each number.
 use Prim.Native.Nat.{ℕ}
-use mathlib.Core.Bool.{Bool, true, false, not, cond}
+use mathlib.Core.Bool.{Bool, true, not, cond}
 use lib.Dec.{eqb}
 use Rattle.codes.specs.declared.value.Value.{Value}
 use Rattle.codes.specs.declared.value.Value.the-variants.{Off, On, Unknown}

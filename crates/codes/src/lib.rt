@@ -2,6 +2,8 @@
 mod coding;
 mod common;
 mod descriptor;
+mod gathering;
+mod laws;
 mod life;
 mod table;
 mod tabling;
@@ -10,6 +12,7 @@ mod value;
 pub use coding::CONTRADICTION;
 pub use coding::code_of;
 pub use descriptor::Descriptor;
+pub use laws::codes_stand;
 pub use life::worked_codes_stand;
 pub use table::Table;
 pub use value::Value;

@@ -1,4 +1,5 @@
 ghost use Prim.Native.Nat.{ℕ, _<_};
+ghost use Rattle.codes.specs.Laws.{TableTells};
 ghost use Rattle.codes.specs.Tables.{codeAt, codeIn};
 ghost use Rattle.codes.specs.Values.{valueOf};
 ghost use Rattle.rules.specs.Answers.{answer};
@@ -48,7 +49,8 @@ fn worked_out(rule: &Rule) -> Table
 impl Table {
     // The table of a rule: fixed for B3/S23, worked out for any other.
     pub fn of(rule: &Rule) -> Table
-        ensures { λ r. ⌜ ((i : ℕ) → codeIn r i ≡ codeAt (answer (now (rule .entry))) i) ⌝ }
+        ensures codes { λ r. ⌜ ((i : ℕ) → codeIn r i ≡ codeAt (answer (now (rule .entry))) i) ⌝ }
+        ensures tell { λ r. ⌜ TableTells (answer (now (rule .entry))) r ⌝ }
     {
         if rule.is_life() {
             return life_table();

@@ -16,10 +16,11 @@ never-itself n cell f b = both-ways (at f (cell (b .place))) (b .off) (b .on)
 
 onward : (n : ℕ) (cell : ℕ → ℕ) (f g h : List Bool) → Before n cell f g → Before n cell g h → Before n cell f h
 onward n cell f g h p q =
-    elim (cases-order (p .place) (q .place))
-    [ inl same ↦ absurd (both-ways (at g (cell (q .place))) (q .off) (subst (λ k. at g (cell k) ≡ true) same (p .on)))
-    | inr (inl less) ↦ record { place = p .place; below = p .below; off = p .off; on = sym (q .alike (p .place) less) ∙ p .on; alike = λ k l. p .alike k l ∙ q .alike k (omega arith) }
-    | inr (inr more) ↦ record { place = q .place; below = q .below; off = p .alike (q .place) more ∙ q .off; on = q .on; alike = λ k l. p .alike k (omega arith) ∙ q .alike k l } ]
+    elim (cases-order (p .place) (q .place)) [
+      | inl same ↦ absurd (both-ways (at g (cell (q .place))) (q .off) (subst (λ k. at g (cell k) ≡ true) same (p .on)))
+      | inr (inl less) ↦ record { place = p .place; below = p .below; off = p .off; on = sym (q .alike (p .place) less) ∙ p .on; alike = λ k l. p .alike k l ∙ q .alike k (omega arith) }
+      | inr (inr more) ↦ record { place = q .place; below = q .below; off = p .alike (q .place) more ∙ q .off; on = q .on; alike = λ k l. p .alike k (omega arith) ∙ q .alike k l }
+    ]
 
 -- two values are the same, or one is off and the other on
 values : (a b : Bool) → (a ≡ b) ⊎ (((a ≡ false) × (b ≡ true)) ⊎ ((a ≡ true) × (b ≡ false)))
@@ -52,8 +53,8 @@ module _ (n : ℕ) (cell rank : ℕ → ℕ) (o : Orders n cell rank) (f g : Lis
   decided : Compared n cell f g n → (f ≡ g) ⊎ (Before n cell f g ⊎ Before n cell g f)
   decided (inl h) =
       inl (ext-getD false f g (lf ∙ sym lg) (λ c less.
-        let inside : c < n = omega arith in
-        subst (λ k. at f k ≡ at g k) (o .forth c inside) (h (rank c) (o .ranked c inside))))
+      let inside : c < n = omega arith in
+      subst (λ k. at f k ≡ at g k) (o .forth c inside) (h (rank c) (o .ranked c inside))))
   decided (inr b) = inr b
 
   either : (f ≡ g) ⊎ (Before n cell f g ⊎ Before n cell g f)

@@ -75,6 +75,6 @@ first-decides s r f g law kf kg start =
     let w = s .frame .width in
     let h = s .frame .height in
     ext-getD false f g (kf .long ∙ sym (kg .long)) (λ c less.
-      let inside : c < w * h * s .frame .period = omega (arith, kf .long) in
-      subst (λ n. at f n ≡ at g n) (number-back w h c)
-      (every s r f g law kf kg start (c / w / h) (generation-below w h (s .frame .period) c (s .frame .wide) (s .frame .tall) inside) (c % w) (c / w % h) (mod-below c w (s .frame .wide)) (mod-below (c / w) h (s .frame .tall))))
+    let inside : c < w * h * s .frame .period = omega (arith, kf .long) in
+    subst (λ n. at f n ≡ at g n) (number-back w h c)
+    (every s r f g law kf kg start (c / w / h) (generation-below w h (s .frame .period) c (s .frame .wide) (s .frame .tall) inside) (c % w) (c / w % h) (mod-below c w (s .frame .wide)) (mod-below (c / w) h (s .frame .tall))))

@@ -48,15 +48,16 @@ all-hold : (s : Surface) (r : Rule) (f : List Bool) → allTested s r f ≡ true
 unfolding allTested tested
 all-hold s r f e t j i ht hj hi =
     same-is _ _ (all-below (s .frame .width + 18) (λ k. tested s r f t j k)
-      (all-below (s .frame .height + 18) (λ k. allBelow (s .frame .width + 18) (λ m. tested s r f t k m))
-        (all-below (s .frame .period) (λ k. allBelow (s .frame .height + 18) (λ l. allBelow (s .frame .width + 18) (λ m. tested s r f k l m))) e t ht) j hj) i hi)
+    (all-below (s .frame .height + 18) (λ k. allBelow (s .frame .width + 18) (λ m. tested s r f t k m))
+    (all-below (s .frame .period) (λ k. allBelow (s .frame .height + 18) (λ l. allBelow (s .frame .width + 18) (λ m. tested s r f k l m))) e t ht) j hj) i hi)
 
 pub rolls-worked : Rolls-worked
 unfolding allTested tested allBelow same
-rolls-worked = record
-  { block = record { long = refl; ties = λ row c h l. absurd (omega arith); instances = all-hold (plainly two-by-two) life (O ∷ O ∷ O ∷ O ∷ []) refl }
-  ; lone = λ k. both-ways false refl (sym (k .instances 0 9 9 (lit< tt) (lit< tt) (lit< tt)))
-  ; flies = record { long = refl; ties = λ row c h l. absurd (omega arith); instances = all-hold (plainly down-right) life glider refl }
-  ; not-back = λ k. both-ways false refl (sym (k .instances 3 8 9 (lit< tt) (lit< tt) (lit< tt)))
-  ; eight = record { long = refl; ties = λ row c h l. absurd (omega arith); instances = all-hold (around-torus one-cell) crowded (O ∷ []) refl }
-  ; no-leap = λ k. both-ways false refl (sym (k .instances 0 9 11 (lit< tt) (lit< tt) (lit< tt))) }
+rolls-worked = record {
+  block = record { long = refl; ties = λ row c h l. absurd (omega arith); instances = all-hold (plainly two-by-two) life (O ∷ O ∷ O ∷ O ∷ []) refl };
+  lone = λ k. both-ways false refl (sym (k .instances 0 9 9 (lit< tt) (lit< tt) (lit< tt)));
+  flies = record { long = refl; ties = λ row c h l. absurd (omega arith); instances = all-hold (plainly down-right) life glider refl };
+  not-back = λ k. both-ways false refl (sym (k .instances 3 8 9 (lit< tt) (lit< tt) (lit< tt)));
+  eight = record { long = refl; ties = λ row c h l. absurd (omega arith); instances = all-hold (around-torus one-cell) crowded (O ∷ []) refl };
+  no-leap = λ k. both-ways false refl (sym (k .instances 0 9 11 (lit< tt) (lit< tt) (lit< tt)));
+}

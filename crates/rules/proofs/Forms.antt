@@ -58,15 +58,15 @@ rising-read [] least set h k = (set-few set least h k, refl)
 rising-read (b ∷ bs) least set h k =
     cond-both (leb (48 + least) b && leb b 56) (rising (b - 48 + 1) (set + 2 ^ (b - 48)) bs) (record { set = set; rest = b ∷ bs }) (Read set (b ∷ bs))
     (λ e.
-      let lim = digit-limits least b e in
-      let low : least ≤ b - 48 = omega arith in
-      let high : b - 48 ≤ 8 = omega arith in
-      let up : 2 ^ least ≤ 2 ^ (b - 48) = pow-mono low in
-      let few : set < 2 ^ (b - 48) = omega arith in
-      let again = rising-read bs (b - 48 + 1) (set + 2 ^ (b - 48)) (set-grows set least (b - 48) h low) (omega arith) in
-      let same : 48 + (b - 48) ≡ b = omega arith in
-      let more : digitsBelow 9 (set + 2 ^ (b - 48)) ≡ digitsBelow 9 set ++ b ∷ [] = digit-more (b - 48) set (omega arith) few ∙ ap (λ x. digitsBelow 9 set ++ x ∷ []) same in
-      (again .0, sym (append-assoc (digitsBelow 9 set) (b ∷ []) bs) ∙ ap (λ l. l ++ bs) (sym more) ∙ again .1))
+    let lim = digit-limits least b e in
+    let low : least ≤ b - 48 = omega arith in
+    let high : b - 48 ≤ 8 = omega arith in
+    let up : 2 ^ least ≤ 2 ^ (b - 48) = pow-mono low in
+    let few : set < 2 ^ (b - 48) = omega arith in
+    let again = rising-read bs (b - 48 + 1) (set + 2 ^ (b - 48)) (set-grows set least (b - 48) h low) (omega arith) in
+    let same : 48 + (b - 48) ≡ b = omega arith in
+    let more : digitsBelow 9 (set + 2 ^ (b - 48)) ≡ digitsBelow 9 set ++ b ∷ [] = digit-more (b - 48) set (omega arith) few ∙ ap (λ x. digitsBelow 9 set ++ x ∷ []) same in
+    (again .0, sym (append-assoc (digitsBelow 9 set) (b ∷ []) bs) ∙ ap (λ l. l ++ bs) (sym more) ∙ again .1))
     (λ e. (set-few set least h k, refl))
 
 row-read : (bs : List ℕ) → (rising 0 0 bs .set < 512) × (bs ≡ digitsBelow 9 (rising 0 0 bs .set) ++ rising 0 0 bs .rest)
@@ -92,16 +92,16 @@ divided-view b (x ∷ []) = inl refl
 divided-view b (x ∷ y ∷ bs) =
     cond-both (eqb x 47 && eqb y 83) (ended b (rising 0 0 bs .set) (rising 0 0 bs .rest)) (Err Form) (λ r. (r ≡ Err Form) ⊎ Divided (x ∷ y ∷ bs))
     (λ e.
-      let p = and-parts (eqb x 47) (eqb y 83) e in
-      let px : x ≡ 47 = eqb-true x 47 (p .0) in
-      let py : y ≡ 83 = eqb-true y 83 (p .1) in
-      let row = row-read bs in
-      elim (ended-view b (rising 0 0 bs .set) (rising 0 0 bs .rest)) [
-        inl bad ↦ inl bad
+    let p = and-parts (eqb x 47) (eqb y 83) e in
+    let px : x ≡ 47 = eqb-true x 47 (p .0) in
+    let py : y ≡ 83 = eqb-true y 83 (p .1) in
+    let row = row-read bs in
+    elim (ended-view b (rising 0 0 bs .set) (rising 0 0 bs .rest)) [
+      | inl bad ↦ inl bad
       | inr none ↦
           let all : bs ≡ digitsBelow 9 (rising 0 0 bs .set) = row .1 ∙ append-nil-right (digitsBelow 9 (rising 0 0 bs .set)) (rising 0 0 bs .rest) none in
           inr (rising 0 0 bs .set, row .0, (cc))
-      ])
+    ])
     (λ e. inl refl)
 
 -- a text is refused for its form, or is the written form of two sets
@@ -114,14 +114,14 @@ form-view [] = inl refl
 form-view (x ∷ bs) =
     cond-both (eqb x 66) (divided (rising 0 0 bs .set) (rising 0 0 bs .rest)) (Err Form) (λ r. (r ≡ Err Form) ⊎ Accepted (x ∷ bs))
     (λ e.
-      let px : x ≡ 66 = eqb-true x 66 e in
-      let row = row-read bs in
-      elim (divided-view (rising 0 0 bs .set) (rising 0 0 bs .rest)) [
-        inl bad ↦ inl bad
+    let px : x ≡ 66 = eqb-true x 66 e in
+    let row = row-read bs in
+    elim (divided-view (rising 0 0 bs .set) (rising 0 0 bs .rest)) [
+      | inl bad ↦ inl bad
       | inr d ↦
           let whole : bs ≡ digitsBelow 9 (rising 0 0 bs .set) ++ 47 ∷ 83 ∷ digitsBelow 9 (d .0) = row .1 ∙ ap (λ l. digitsBelow 9 (rising 0 0 bs .set) ++ l) (d .2) in
           inr (rising 0 0 bs .set, d .0, row .0, d .1, (cc))
-      ])
+    ])
     (λ e. inl refl)
 
 -- what a written form is read as, by its births
@@ -144,36 +144,37 @@ same-sets (Err e) = record { births = 0; survivals = 0 }
 pub accepted : (t : List ℕ) (b s : ℕ) → parsed t ≡ Ok (record { births = b; survivals = s }) → (b < 512) × (s < 512) × (b % 2 ≡ 0) × (t ≡ written b s)
 accepted t b s e =
     elim (form-view t) [
-      inl bad ↦ never (cc)
-    | inr a ↦
-        let read : parsed t ≡ quietOnly (a .0) (a .1) = ap parsed (a .4) ∙ parsed-written (a .0) (a .1) (a .2) (a .3) in
-        elim (parity (a .0)) [
-          inl even ↦
-            let both : _≡_ {A = Result Sets RuleFault} (Ok (record { births = a .0; survivals = a .1 })) (Ok (record { births = b; survivals = s })) = sym (even-read (a .0) (a .1) even) ∙ sym read ∙ e in
-            let eb : a .0 ≡ b = ap (λ r. same-sets r .births) both in
-            let es : a .1 ≡ s = ap (λ r. same-sets r .survivals) both in
-            let small : a .0 < 512 = a .2 in
-            let few : a .1 < 512 = a .3 in
-            (omega arith, omega arith, subst (λ n. n % 2 ≡ 0) eb even, (cc (a .4)))
-        | inr odd ↦ let bad : quietOnly (a .0) (a .1) ≡ Err BirthZero = odd-read (a .0) (a .1) odd in never (cc)
-        ]
+      | inl bad ↦ never (cc)
+      | inr a ↦
+          let read : parsed t ≡ quietOnly (a .0) (a .1) = ap parsed (a .4) ∙ parsed-written (a .0) (a .1) (a .2) (a .3) in
+          elim (parity (a .0)) [
+            | inl even ↦
+                let both : _≡_ {A = Result Sets RuleFault} (Ok (record { births = a .0; survivals = a .1 })) (Ok (record { births = b; survivals = s })) = sym (even-read (a .0) (a .1) even) ∙ sym read ∙ e in
+                let eb : a .0 ≡ b = ap (λ r. same-sets r .births) both in
+                let es : a .1 ≡ s = ap (λ r. same-sets r .survivals) both in
+                let small : a .0 < 512 = a .2 in
+                let few : a .1 < 512 = a .3 in
+                (omega arith, omega arith, subst (λ n. n % 2 ≡ 0) eb even, (cc (a .4)))
+            | inr odd ↦ let bad : quietOnly (a .0) (a .1) ≡ Err BirthZero = odd-read (a .0) (a .1) odd in never (cc)
+          ]
     ]
 
 pub loud : (t : List ℕ) → parsed t ≡ Err BirthZero → (b : ℕ) × (s : ℕ) × (b < 512) × (s < 512) × (b % 2 ≡ 1) × (t ≡ written b s)
 loud t e =
     elim (form-view t) [
-      inl bad ↦ never (cc)
-    | inr a ↦
-        let read : parsed t ≡ quietOnly (a .0) (a .1) = ap parsed (a .4) ∙ parsed-written (a .0) (a .1) (a .2) (a .3) in
-        elim (parity (a .0)) [
-          inl even ↦ let good = even-read (a .0) (a .1) even in never (cc)
-        | inr odd ↦ (a .0, a .1, a .2, a .3, odd, a .4)
-        ]
+      | inl bad ↦ never (cc)
+      | inr a ↦
+          let read : parsed t ≡ quietOnly (a .0) (a .1) = ap parsed (a .4) ∙ parsed-written (a .0) (a .1) (a .2) (a .3) in
+          elim (parity (a .0)) [
+            | inl even ↦ let good = even-read (a .0) (a .1) even in never (cc)
+            | inr odd ↦ (a .0, a .1, a .2, a .3, odd, a .4)
+          ]
     ]
 
 pub forms-stand : Forms-stand
-forms-stand =
-    ((λ b s hb hs even. parsed-written b s hb hs ∙ even-read b s even),
-     (λ b s hb hs odd. parsed-written b s hb hs ∙ odd-read b s odd),
-     accepted,
-     loud)
+forms-stand = (
+  (λ b s hb hs even. parsed-written b s hb hs ∙ even-read b s even),
+  (λ b s hb hs odd. parsed-written b s hb hs ∙ odd-read b s odd),
+  accepted,
+  loud,
+)

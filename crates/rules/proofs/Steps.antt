@@ -81,7 +81,7 @@ module _ (t : List ℕ) (births end : ℕ) (some : 0 < length t) (front : getD t
     two-read =
         let after : end + 1 + 1 ≡ end + 2 = omega arith in
         let two : drop end t ≡ getD t end 0 ∷ getD t (end + 1) 0 ∷ drop (end + 2) t =
-            drop-more t end 0 (omega arith) ∙ ap (λ l. getD t end 0 ∷ l) (drop-more t (end + 1) 0 (omega arith) ∙ ap (λ n. getD t (end + 1) 0 ∷ drop n t) after) in
+        drop-more t end 0 (omega arith) ∙ ap (λ l. getD t end 0 ∷ l) (drop-more t (end + 1) 0 (omega arith) ∙ ap (λ n. getD t (end + 1) 0 ∷ drop n t) after) in
         births-read ∙ ap (divided births) two
 
     pub no-slash : (getD t end 0 ≡ 47 → ⊥) → parsed t ≡ Err Form
@@ -133,5 +133,5 @@ text-put first last births survivals end len front room back =
     let letter : take (end + 1 + 1) (set (set first end 47) (end + 1) 83) ≡ take (end + 1) (set first end 47) ++ 83 ∷ [] = take-more-set (set first end 47) (end + 1) 83 (omega arith) in
     let after : end + 2 ≡ end + 1 + 1 = omega arith in
     let middle : take (end + 2) (set (set first end 47) (end + 1) 83) ≡ ((66 ∷ digitsBelow 9 births) ++ 47 ∷ []) ++ 83 ∷ [] =
-        ap (λ n. take n (set (set first end 47) (end + 1) 83)) after ∙ letter ∙ ap (λ l. l ++ 83 ∷ []) (slash ∙ ap (λ l. l ++ 47 ∷ []) front) in
+    ap (λ n. take n (set (set first end 47) (end + 1) 83)) after ∙ letter ∙ ap (λ l. l ++ 83 ∷ []) (slash ∙ ap (λ l. l ++ 47 ∷ []) front) in
     back ∙ ap (λ l. l ++ digitsBelow 9 survivals) middle ∙ simp append-assoc

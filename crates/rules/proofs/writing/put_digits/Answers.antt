@@ -19,10 +19,10 @@ loop-digit-again c =
     let end = c .loop-digit .end in
     let so-far = c .loop-digit .inv .2 in
     elim (c .if-holds-digit .came) [
-      then-holds-digit w ↦
-        let put = digit-put bytes front end (c .loop-digit .digit) (c .args .set) so-far (omega arith) (sym (w .if-holds-digit .ensures tt)) in
-        (omega (arith, w .end-is), omega (arith, w .end-is), ap (λ n. take n (c .if-holds-digit .bytes)) (w .end-is) ∙ ap (take (end + 1)) (w .bytes-is) ∙ put)
-    | else-holds-digit w ↦
-        let passed = digit-passed bytes front end (c .loop-digit .digit) (c .args .set) so-far (sym (w .if-holds-digit .ensures tt)) in
-        (omega (arith, w .end-is), omega (arith, w .end-is), ap (λ n. take n (c .if-holds-digit .bytes)) (w .end-is) ∙ ap (take end) (w .bytes-is) ∙ passed)
+      | then-holds-digit w ↦
+          let put = digit-put bytes front end (c .loop-digit .digit) (c .args .set) so-far (omega arith) (sym (w .if-holds-digit .ensures tt)) in
+          (omega (arith, w .end-is), omega (arith, w .end-is), ap (λ n. take n (c .if-holds-digit .bytes)) (w .end-is) ∙ ap (take (end + 1)) (w .bytes-is) ∙ put)
+      | else-holds-digit w ↦
+          let passed = digit-passed bytes front end (c .loop-digit .digit) (c .args .set) so-far (sym (w .if-holds-digit .ensures tt)) in
+          (omega (arith, w .end-is), omega (arith, w .end-is), ap (λ n. take n (c .if-holds-digit .bytes)) (w .end-is) ∙ ap (take end) (w .bytes-is) ∙ passed)
     ]

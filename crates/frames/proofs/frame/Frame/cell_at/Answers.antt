@@ -16,7 +16,7 @@ returns c =
     record {
       inside = (mod-below n (f .width) (f .wide), mod-below (n / f .width) (f .height) (f .tall), generation-below (f .width) (f .height) (f .period) n (f .wide) (f .tall) less);
       back =
-        cond-true _ _ None (and-from _ _ (and-from _ _ (lt-ltb _ _ (mod-below n (f .width) (f .wide))) (lt-ltb _ _ (mod-below (n / f .width) (f .height) (f .tall)))) (lt-ltb _ _ (generation-below (f .width) (f .height) (f .period) n (f .wide) (f .tall) less)))
-        ∙ ap Some (number-back (f .width) (f .height) n);
+          cond-true _ _ None (and-from _ _ (and-from _ _ (lt-ltb _ _ (mod-below n (f .width) (f .wide))) (lt-ltb _ _ (mod-below (n / f .width) (f .height) (f .tall)))) (lt-ltb _ _ (generation-below (f .width) (f .height) (f .period) n (f .wide) (f .tall) less)))
+          ∙ ap Some (number-back (f .width) (f .height) n);
       value = search needs;
     }

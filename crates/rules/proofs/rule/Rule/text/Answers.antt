@@ -15,7 +15,7 @@ returns c =
     let end = c .put-digits-end .result in
     let len = c .put-digits-len .result in
     let text : take len last ≡ written (r .births) (r .survivals) =
-        text-put first last (r .births) (r .survivals) end len (c .put-digits-end .ensures .digits) (omega arith) (c .put-digits-len .ensures .digits) in
+    text-put first last (r .births) (r .survivals) end len (c .put-digits-end .ensures .digits) (omega arith) (c .put-digits-len .ensures .digits) in
     record {
       bytes = text;
       len = sym (length-take-le len last (omega arith)) ∙ ap length text;
