@@ -19,7 +19,7 @@ use Rattle.planes.specs.Ties.{Within}
 use Rattle.rolls.specs.Joined.{Joined, alone, tied, turned, chained}
 use Rattle.rolls.specs.Rolls.{Surface}
 use Rattle.classes.specs.Joins.{labelOf, TiesInside, LabelsRight, Labels-right}
-use Rattle.classes.specs.Labels.{renamed, united, joinedBy, labelsAfter, Low}
+use Rattle.classes.specs.Labels.{renamed, united, joinedBy, labelsAfter, joinedLabels, Low}
 use Rattle.classes.proofs.United.{united-lower, low-lowered, counting-low}
 
 -- both labels become the lower of the two
@@ -160,3 +160,10 @@ some-cells s = mul-pos (mul-pos (s .frame .wide) (s .frame .tall)) (s .frame .la
 
 pub labels-right : Labels-right
 labels-right s inside = right s inside (some-cells s)
+
+-- as many labels as cells, none above its cell
+pub labels-long : (s : Surface) → TiesInside s → length (joinedLabels (s .frame) (s .rows) (s .tie)) ≡ cells (s .frame)
+labels-long s inside = every s inside (some-cells s) .long
+
+pub labels-low : (s : Surface) → TiesInside s → Low (joinedLabels (s .frame) (s .rows) (s .tie))
+labels-low s inside = every s inside (some-cells s) .low

@@ -3,3 +3,4 @@ pub mod United
 pub mod Joining
 pub mod Numbered
 pub mod Asking
+pub mod Classing

@@ -1,4 +1,5 @@
 pub mod Asked
+pub mod Classed
 pub mod Joins
 pub mod Labels
 pub mod Numbers

@@ -10,4 +10,5 @@ mod uniting;
 pub use classes::Classes;
 pub use classes::Musts;
 pub use finding::classes_of;
+pub use laws::classes_stand;
 pub use laws::labels_stand;
