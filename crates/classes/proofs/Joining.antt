@@ -155,7 +155,7 @@ module _ (s : Surface) (inside : TiesInside s) (some : 0 < cells (s .frame)) whe
   }
 
 -- a frame has cells
-some-cells : (s : Surface) → 0 < cells (s .frame)
+pub some-cells : (s : Surface) → 0 < cells (s .frame)
 some-cells s = mul-pos (mul-pos (s .frame .wide) (s .frame .tall)) (s .frame .lasting)
 
 pub labels-right : Labels-right

@@ -4,3 +4,4 @@ pub mod Joining
 pub mod Numbered
 pub mod Asking
 pub mod Classing
+pub mod Needing

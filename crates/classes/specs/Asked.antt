@@ -32,3 +32,13 @@ freeAmong (m ∷ ms) = cond (m .off || m .on) 0 1 + freeAmong ms
 abbrev pub tornAmong : List Musts → Bool
 tornAmong [] = false
 tornAmong (m ∷ ms) = (m .off && m .on) || tornAmong ms
+
+-- whether off, for false, or on, for true, is asked
+abbrev pub asks : Bool → Musts → Bool
+asks false m = m .off
+asks true m = m .on
+
+-- the tie that asks so
+abbrev pub must : Bool → Tie
+must false = Off
+must true = On

@@ -12,3 +12,4 @@ pub use classes::Musts;
 pub use finding::classes_of;
 pub use laws::classes_stand;
 pub use laws::labels_stand;
+pub use laws::musts_stand;
