@@ -1,4 +1,6 @@
 // Runs the problems and scripts of calls whose answers are known, and says where ours differ.
+#![tactic(auto)]
+
 mod page;
 mod said;
 mod script;

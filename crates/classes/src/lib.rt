@@ -1,4 +1,6 @@
 // The classes of a space: cells that chains of ties ask to be the same, and what is asked of each.
+#![tactic(auto)]
+
 mod classes;
 mod finding;
 mod laws;

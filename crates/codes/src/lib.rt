@@ -1,4 +1,6 @@
 // What a neighbourhood forces: descriptors, their codes by fitting pairs, and the table of 729 codes.
+#![tactic(auto)]
+
 mod coding;
 mod common;
 mod descriptor;

@@ -1,4 +1,6 @@
 // The box that is searched: its size, period and drift, and the numbers of its cells.
+#![tactic(auto)]
+
 mod fault;
 mod frame;
 mod making;

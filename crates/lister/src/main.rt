@@ -1,4 +1,6 @@
 // Reads a problem from standard input and lists its finds, or says why it is refused.
+#![tactic(auto)]
+
 use anyhow::anyhow;
 use listing::{ListFault, PAGE_SIZE, Sink, list_page};
 use printing::write_refused;
@@ -76,7 +78,7 @@ fn list(rt: &HostRuntime, problem: &Problem) -> anyhow::Result<()> {
     let mut printer = Printer { rt, held };
     match list_page(&mut search, &mut page, &mut printer) {
         Ok(()) => Ok(()),
-        Err(fault) => Err(word_of(fault).into()),
+        Err(fault) => Err(anyhow!(word_of(fault))),
     }
 }
 

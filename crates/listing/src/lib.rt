@@ -1,4 +1,6 @@
 // The page's loop: a search runs on until it is done, and each find is handed on as it is told.
+#![tactic(auto)]
+
 mod fault;
 mod page;
 

@@ -1,4 +1,6 @@
 // Decimal numbers: one writer and one reader, over every u64.
+#![tactic(auto)]
+
 mod reading;
 mod writing;
 

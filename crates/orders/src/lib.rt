@@ -1,4 +1,6 @@
 // Orders of the cells of a box: in which turn a search asks for them.
+#![tactic(auto)]
+
 mod columns;
 mod generations;
 mod order;

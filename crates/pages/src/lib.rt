@@ -1,4 +1,6 @@
 // Pages that texts and lines are written into, from a place on.
+#![tactic(auto)]
+
 mod fault;
 mod putting;
 

@@ -1,5 +1,7 @@
 // Surfaces that a box may lie on, and what is asked of its cells beyond the rule.
 // A plane says where a look falls; a space adds rows of ties; a layer is a space over another.
+#![tactic(auto)]
+
 mod cylinder;
 mod fault;
 mod fixed;

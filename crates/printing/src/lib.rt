@@ -1,4 +1,6 @@
 // The lines that a lister prints beside the texts of the finds.
+#![tactic(auto)]
+
 mod printing;
 
 pub use printing::{write_found, write_refused};

@@ -1,4 +1,6 @@
 // A problem read from a text.
+#![tactic(auto)]
+
 mod fault;
 mod fields;
 mod problem;

@@ -53,11 +53,11 @@ fn surface_of(line: Option<&[u8]>, frame: Frame) -> Result<Surface, Cause>
     ensures { IfErr result OfLine }
 {
     let name = value_of(line, b"space")?;
-    if name == b"plain" {
+    if name == b"plain".as_slice() {
         Ok(Surface::Plain(Plain { frame }))
-    } else if name == b"torus" {
+    } else if name == b"torus".as_slice() {
         Ok(Surface::Torus(Torus { frame }))
-    } else if name == b"cylinder" {
+    } else if name == b"cylinder".as_slice() {
         Ok(Surface::Cylinder(Cylinder { frame }))
     } else {
         Err(Cause::Form)
@@ -68,11 +68,11 @@ fn order_of(line: Option<&[u8]>) -> Result<AnyOrder, Cause>
     ensures { IfErr result OfLine }
 {
     let name = value_of(line, b"order")?;
-    if name == b"rows" {
+    if name == b"rows".as_slice() {
         Ok(AnyOrder::Rows)
-    } else if name == b"columns" {
+    } else if name == b"columns".as_slice() {
         Ok(AnyOrder::Columns)
-    } else if name == b"generations" {
+    } else if name == b"generations".as_slice() {
         Ok(AnyOrder::Generations)
     } else {
         Err(Cause::Form)

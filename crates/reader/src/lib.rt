@@ -1,4 +1,6 @@
 // Reads RLE texts: hands out remarks, the heading, runs and the end, or the first fault, each with its line and column.
+#![tactic(auto)]
+
 mod body;
 mod gap;
 mod heading;

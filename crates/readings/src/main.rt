@@ -1,4 +1,6 @@
 // Reads the RLE texts whose verdicts are known, and says where the reader answers otherwise.
+#![tactic(auto)]
+
 mod expected;
 mod reading;
 

@@ -1,4 +1,6 @@
 // What RLE texts are: marks, runs, faults and the grammar, with its laws. The reader and the writer rest on it.
+#![tactic(auto)]
+
 mod fault;
 mod laws;
 mod mark;

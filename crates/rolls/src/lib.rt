@@ -1,4 +1,6 @@
 // The roll: which fillings of a box are listed. Its definition, which search and checker share, and its laws.
+#![tactic(auto)]
+
 mod laws;
 
 pub use laws::{order_laws_stand, roll_laws_stand, surface_stands, worked_rolls_stand};

@@ -1,4 +1,6 @@
 // Rules of cellular automata in B/S notation: their text and their answers.
+#![tactic(auto)]
+
 mod fault;
 mod reading;
 mod rule;

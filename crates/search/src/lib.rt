@@ -1,4 +1,6 @@
 // The search: it tells the fillings of a box that keep its ties and its rule, one by one.
+#![tactic(auto)]
+
 mod answer;
 mod fault;
 mod going;

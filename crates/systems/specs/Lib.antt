@@ -1,6 +1,5 @@
 pub mod Alike
 pub mod Laws
-pub mod Same
 pub mod Settling
 pub mod Spaces
 pub mod Systems

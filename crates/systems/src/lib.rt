@@ -1,5 +1,7 @@
 // Systems of classes and instances: what is forced, what settling comes to, and that a filling of
 // the classes solves the system of a space exactly when the filling of its cells keeps ties and rule.
+#![tactic(auto)]
+
 mod instance;
 mod laws;
 

@@ -1,4 +1,6 @@
 // RLE texts of patterns: their writer.
+#![tactic(auto)]
+
 mod body;
 mod heading;
 mod mark;

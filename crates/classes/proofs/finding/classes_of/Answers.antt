@@ -8,21 +8,21 @@ pub returns : goal.returns
 returns g c =
     let space = c.args.space.now in
     let size = cells (g.S.Plane.means space).frame in
-    let labels = c.in-ok-labels.field-0.labels in
-    let lowest = c.in-ok-labels.field-0.lowest in
-    let musts = c.in-ok-musts.musts in
-    let last = c.note-all.new.musts in
-    let entry = c.as-mut-slice.result.now in
+    let labels = c.in_ok-labels.field-0.labels in
+    let lowest = c.in_ok-labels.field-0.lowest in
+    let musts = c.in_ok-musts.musts in
+    let last = c.note_all.new.musts in
+    let entry = c.as_mut_slice.result.now in
     let long : length last ≡ musts.len = search rules in
     let count : length entry ≡ vec_len lowest = search rules in
     let none : entry ≡ replicate (vec_len lowest) unasked = search rules in
     let fresh : entry ≡ replicate (length entry) unasked = none ∙ ap (λ n. replicate n unasked) (sym count) in
-    let slice : c.as-slice-2.result.now ≡ vec_items labels = search rules in
-    let asked = c.note-all.ensures.value fresh in
+    let slice : c.as_slice-2.result.now ≡ vec_items labels = search rules in
+    let asked = c.note_all.ensures.value fresh in
     record {
       len = search rules;
       numbers = search rules;
       musts = take_at last _ musts.len long ∙ asked ∙ (λ i. asked_after (g.S.Space.tied space) size (slice i) (count i) (g.S.Space.count space * size));
       free = search rules;
-      inside = c.in-ok-joined.ensures.inside;
+      inside = c.in_ok-joined.ensures.inside;
     }

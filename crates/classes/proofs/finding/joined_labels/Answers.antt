@@ -7,14 +7,14 @@ use Rattle.classes.proofs.finding.joined_labels.Goals as goal
 
 pub returns : goal.returns
 returns g c =
-    let labels = c.in-ok-labels.labels in
-    let own = c.in-ok-labels.ensures in
-    let long : length c.join-all.new.labels ≡ labels.len = search rules in
-    let whole = take_at c.join-all.new.labels _ labels.len long in
+    let labels = c.in_ok-labels.labels in
+    let own = c.in_ok-labels.ensures in
+    let long : length c.join_all.new.labels ≡ labels.len = search rules in
+    let whole = take_at c.join_all.new.labels _ labels.len long in
     let size : c.cells.result ≡ cells (g.S.Plane.means c.args.space.now).frame = c.cells.ensures ∙ ap cells c.frame.ensures in
     record {
-      value = whole ∙ c.join-all.ensures.value;
+      value = whole ∙ c.join_all.ensures.value;
       len = labels.ok.0 ∙ ap length own ∙ length-range_with_len 0 _ ∙ size;
-      low = subst Low (sym whole) c.join-all.ensures.low;
-      inside = c.join-all.ensures.inside;
+      low = subst Low (sym whole) c.join_all.ensures.low;
+      inside = c.join_all.ensures.inside;
     }

@@ -12,7 +12,7 @@ loop-label-init c =
 pub loop-label-preserved : goal.loop-label-preserved
 loop-label-preserved c =
     let inv = c.loop-label.invariant in
-    let told = c.in-ok-add.ensures in
+    let told = c.in_ok-add.ensures in
     (omega (arith, inv.0, told.len), omega (arith, inv.1, told.fewer), numbers_more c.args.joined.now c.loop-label.label-index _ _ c.loop-label-test.true inv.2 told.value)
 
 pub returns : goal.returns

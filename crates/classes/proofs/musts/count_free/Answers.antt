@@ -5,7 +5,7 @@ use Rattle.classes.proofs.musts.count_free.Goals as goal
 pub loop-must-preserved : goal.loop-must-preserved
 loop-must-preserved c =
     let inv = c.loop-must.invariant in
-    (omega (arith, inv.0, c.free-one-free.ensures.bound), free_more c.args.musts.now c.loop-must.must-index c.loop-must.free _ c.loop-must-test.true inv.1 (ap (λ n. c.loop-must.free + n) c.free-one-free.ensures.value))
+    (omega (arith, inv.0, c.free_one-free.ensures.bound), free_more c.args.musts.now c.loop-must.must-index c.loop-must.free _ c.loop-must-test.true inv.1 (ap (λ n. c.loop-must.free + n) c.free_one-free.ensures.value))
 
 pub returns : goal.returns
 returns c =

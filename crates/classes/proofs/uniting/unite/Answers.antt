@@ -12,7 +12,7 @@ loop-label-preserved c =
     let i = c.loop-label.label-index in
     let f = renamed c.min-low.result c.max-high.result in
     let here : get_or ys i 0 ≡ get_or ys i (get_or ys i 0) = search (rules, get_or_read) in
-    ap (set ys i) c.renamed-label.ensures ∙ map_over_more f xs ys i (get_or ys i 0) c.loop-label-test.true c.loop-label.invariant here
+    ap (set ys i) c.renamed_label.ensures ∙ map_over_more f xs ys i (get_or ys i 0) c.loop-label-test.true c.loop-label.invariant here
 
 pub returns : goal.returns
 returns c =

@@ -9,4 +9,4 @@ pub returns-in-Some : goal.returns-in-Some
 returns-in-Some c =
     let d = c.in-Some.descriptor in
     let e : parts_of d ≡ parts_at c.args.place = cc c.in-Some.ensures in
-    c.code-of.ensures.value ∙ code_at_place (answer c.args.rule.now) c.args.place (parts_of d) c.requires e d.few
+    c.code_of.ensures.value ∙ code_at_place (answer c.args.rule.now) c.args.place (parts_of d) c.requires e d.few

@@ -9,12 +9,12 @@ loop-end-init c = (omega arith, ap trimmed (take_all (length c.args.line.now) c.
 
 pub loop-end-preserved : goal.loop-end-preserved
 loop-end-preserved c =
-    (omega arith, trimmed_shorter c.args.line.now c.loop-end.end c.loop-end-test.true c.loop-end.invariant.0 (sym c.if-is-blank.ensures) ∙ c.loop-end.invariant.1)
+    (omega arith, trimmed_shorter c.args.line.now c.loop-end.end c.loop-end-test.true c.loop-end.invariant.0 (sym c.if-is_blank.ensures) ∙ c.loop-end.invariant.1)
 
-pub returns-else-is-blank : goal.returns-else-is-blank
-returns-else-is-blank c =
+pub returns-else-is_blank : goal.returns-else-is_blank
+returns-else-is_blank c =
     record {
-      value = sym (trimmed_here c.args.line.now c.loop-end.end c.loop-end-test.true c.loop-end.invariant.0 (sym c.if-is-blank.ensures)) ∙ c.loop-end.invariant.1;
+      value = sym (trimmed_here c.args.line.now c.loop-end.end c.loop-end-test.true c.loop-end.invariant.0 (sym c.if-is_blank.ensures)) ∙ c.loop-end.invariant.1;
       within = c.loop-end.invariant.0;
     }
 

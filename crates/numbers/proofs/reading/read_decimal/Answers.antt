@@ -4,21 +4,21 @@ use Rattle.numbers.proofs.Rows.{never_empty, never_zero_first, never_further, st
 use Rattle.numbers.proofs.reading.read_decimal.Goals as goal
 use Rattle.numbers.proofs.reading.read_decimal.Goals.{else-digits-gt1-via-then-digits-gt1+else-digits-eq48, else-digits-gt1-via-else-digits-gt1}
 
-pub returns-then-is-empty : goal.returns-then-is-empty
-returns-then-is-empty c = never_empty c.args.digits.now (search rules)
+pub returns-then-is_empty : goal.returns-then-is_empty
+returns-then-is_empty c = never_empty c.args.digits.now (search rules)
 
 pub returns-then-digits-eq48 : goal.returns-then-digits-eq48
 returns-then-digits-eq48 c = never_zero_first c.args.digits.now (omega arith) (omega arith)
 
-pub returns-in-err-value : goal.returns-in-err-value
-returns-in-err-value c =
+pub returns-in_err-value : goal.returns-in_err-value
+returns-in_err-value c =
     let P : Option ℕ → Type 0 = Reads c.args.digits.now in
-    subst P (sym c.from-residual.ensures) (never_further c.args.digits.now c.loop-digit.digit-index _ c.loop-digit.value (omega arith) refl c.loop-digit.invariant.1 c.in-err-value.ensures)
+    subst P (sym c.from_residual.ensures) (never_further c.args.digits.now c.loop-digit.digit-index _ c.loop-digit.value (omega arith) refl c.loop-digit.invariant.1 c.in_err-value.ensures)
 
 pub loop-digit-preserved : goal.loop-digit-preserved
 loop-digit-preserved c =
-    let told = c.in-ok-value.ensures in
-    let next = step c.args.digits.now c.loop-digit.digit-index _ c.loop-digit.value c.in-ok-value.value (omega arith) refl told.0 told.1 c.loop-digit.invariant.0 c.loop-digit.invariant.1 told.2 in
+    let told = c.in_ok-value.ensures in
+    let next = step c.args.digits.now c.loop-digit.digit-index _ c.loop-digit.value c.in_ok-value.value (omega arith) refl told.0 told.1 c.loop-digit.invariant.0 c.loop-digit.invariant.1 told.2 in
     (next.0, next.1, told.3)
 
 pub returns : goal.returns

@@ -3,8 +3,8 @@ use Rattle.numbers.proofs.Digits.{length_one, length_more, length_most}
 use Rattle.std.proofs.lemmas.Fmt.{decimal_nonempty}
 use Rattle.numbers.proofs.writing.decimal_len.Goals as goal
 
-pub overflow-add-len : goal.overflow-add-len
-overflow-add-len c = omega (arith, length_most c.args.n (omega arith), decimal_nonempty c.loop-rest.rest c.loop-rest.invariant.1)
+pub overflow_add-len : goal.overflow_add-len
+overflow_add-len c = omega (arith, length_most c.args.n (omega arith), decimal_nonempty c.loop-rest.rest c.loop-rest.invariant.1)
 
 pub loop-rest-preserved : goal.loop-rest-preserved
 loop-rest-preserved c = (omega (arith, length_more c.loop-rest.rest (omega arith) c.loop-rest.invariant.1), omega arith)

@@ -9,8 +9,8 @@ returns-in-Some c =
     let old = c.args.page.now in
     let at = c.args.at in
     record {
-      fits = λ _. placed_lent old c.write-decimal.new.tail (decimal c.args.n) at c.in-Some.len
-          (placed_front (take (length old - at) (drop at old)) c.write-decimal.new.tail (decimal c.args.n) c.in-Some.len told.0 told.2);
+      fits = λ _. placed_lent old c.write_decimal.new.tail (decimal c.args.n) at c.in-Some.len
+          (placed_front (take (length old - at) (drop at old)) c.write_decimal.new.tail (decimal c.args.n) c.in-Some.len told.0 told.2);
       short = λ less. absurd (omega (arith, told.0, told.1));
     }
 
@@ -21,5 +21,5 @@ returns-in-None c =
     let at = c.args.at in
     record {
       fits = λ room. absurd (omega (arith, told.0, length-drop at old, ap length (take_rest old at)));
-      short = λ _. (refl, kept_lent old c.write-decimal.new.tail at (length old - at) told.1);
+      short = λ _. (refl, kept_lent old c.write_decimal.new.tail at (length old - at) told.1);
     }

@@ -6,27 +6,27 @@ use Rattle.texts.proofs.Groups.{body_more, body_length_more, shorter}
 use Rattle.pages.proofs.Puts.{placed_then}
 use Rattle.texts.proofs.body.write_body.Goals as goal
 
-pub put-run-end-requires : goal.put-run-end-requires
-put-run-end-requires c =
+pub put_run-end-requires : goal.put_run-end-requires
+put_run-end-requires c =
     let told = c.in-Some.ensures in
     let done = c.loop-run.invariant.0 in
     let rest = body_text (left c.loop-run.runs) in
-    omega (arith, body_length_more (left c.loop-run.runs) (left c.next-run.new.self) c.in-Some.run' told.0 told.1 told.2, length-append done rest, ap length c.loop-run.invariant.2, c.loop-run.invariant.1.0)
+    omega (arith, body_length_more (left c.loop-run.runs) (left c.next_run.new.self) c.in-Some.run' told.0 told.1 told.2, length-append done rest, ap length c.loop-run.invariant.2, c.loop-run.invariant.1.0)
 
 pub loop-run-smaller : goal.loop-run-smaller
 loop-run-smaller c =
     let told = c.in-Some.ensures in
-    shorter (left c.loop-run.runs) (left c.next-run.new.self) c.in-Some.run'.count c.in-Some.run'.mark told.0 told.1
+    shorter (left c.loop-run.runs) (left c.next_run.new.self) c.in-Some.run'.count c.in-Some.run'.mark told.0 told.1
 
 pub loop-run-preserved : goal.loop-run-preserved
 loop-run-preserved c =
     let told = c.in-Some.ensures in
     let done = c.loop-run.invariant.0 in
     let run = c.in-Some.run' in
-    let next = left c.next-run.new.self in
+    let next = left c.next_run.new.self in
     let more : body_text (left c.loop-run.runs) ≡ run_text run ++ body_text next = body_more (left c.loop-run.runs) next run told.0 told.1 told.2 in (
       done ++ run_text run,
-      placed_then c.args.tail.now c.loop-run.tail c.put-run-end.new.tail done (run_text run) 0 c.loop-run.end c.put-run-end.result (omega arith) c.loop-run.invariant.1 c.put-run-end.ensures,
+      placed_then c.args.tail.now c.loop-run.tail c.put_run-end.new.tail done (run_text run) 0 c.loop-run.end c.put_run-end.result (omega arith) c.loop-run.invariant.1 c.put_run-end.ensures,
       append_assoc done (run_text run) (body_text next) ∙ ap (λ l. done ++ l) (sym more) ∙ c.loop-run.invariant.2,
     )
 
@@ -34,7 +34,7 @@ pub returns : goal.returns
 returns c =
     let done = c.loop-run.invariant.0 in
     let old = c.args.tail.now in
-    let whole : done ++ (33 ∷ 10 ∷ []) ≡ body_text (left c.args.runs) = ap (λ ms. done ++ body_text ms) (sym c.in-default.ensures) ∙ c.loop-run.invariant.2 in
+    let whole : done ++ (33 ∷ 10 ∷ []) ≡ body_text (left c.args.runs) = ap (λ ms. done ++ body_text ms) (sym c.in_default.ensures) ∙ c.loop-run.invariant.2 in
     let room : c.loop-run.end + 2 ≤ length c.loop-run.tail = omega (arith, length-append done (33 ∷ 10 ∷ []), ap length whole, c.loop-run.invariant.1.0) in
     let P : List ℕ → Type 0 = λ text. Placed old 0 text c.put.new.page c.put.result in
     subst P whole (placed_then old c.loop-run.tail c.put.new.page done (33 ∷ 10 ∷ []) 0 c.loop-run.end c.put.result (omega arith) c.loop-run.invariant.1 (c.put.ensures.fits room))

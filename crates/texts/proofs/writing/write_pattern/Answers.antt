@@ -10,7 +10,7 @@ returns c =
     let rule = c.args.rule.now in
     record {
       written =
-          subst (λ name. Written c.args.page.now c.args.at (pattern_text frame.width frame.height name c.args.pattern.now) c.write-named.new.page c.write-named.result)
-          (c.as-slice.ensures.bytes ∙ c.text-text.ensures.bytes) c.write-named.ensures;
+          subst (λ name. Written c.args.page.now c.args.at (pattern_text frame.width frame.height name c.args.pattern.now) c.write_named.new.page c.write_named.result)
+          (c.as_slice.ensures.bytes ∙ c.text-text.ensures.bytes) c.write_named.ensures;
       back = round_trip frame.width frame.height rule.births rule.survivals c.args.pattern.now frame.wide frame.narrow frame.tall frame.low;
     }

@@ -3,8 +3,8 @@ use Rattle.classes.specs.Labels.{Numbered}
 use Rattle.classes.proofs.Places.{each_more_if}
 use Rattle.classes.proofs.numbering.Numbering.add.Goals as goal
 
-pub invariant-of-self : goal.invariant-of-self
-invariant-of-self c =
-    let before = c.next-class.new.self in
+pub invariant_of-self : goal.invariant_of-self
+invariant_of-self c =
+    let before = c.next_class.new.self in
     let P : ℕ → ℕ → Type 0 = λ k v. v < vec_len before.lowest in
-    (each_more_if P 0 _ (vec_items before.labels) (vec_items c.push.new.self) c.in-ok-class.class c.push.ensures.items before.below c.in-ok-class.ensures.below, tt)
+    (each_more_if P 0 _ (vec_items before.labels) (vec_items c.push.new.self) c.in_ok-class.class c.push.ensures.items before.below c.in_ok-class.ensures.below, tt)

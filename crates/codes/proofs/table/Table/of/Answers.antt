@@ -5,13 +5,13 @@ use Rattle.codes.proofs.Completions.{table_tells}
 use Rattle.codes.proofs.LifeRule.{life_answers}
 use Rattle.codes.proofs.table.Table.of.Goals as goal
 
-pub returns-then-is-life : goal.returns-then-is-life
-returns-then-is-life c =
+pub returns-then-is_life : goal.returns-then-is_life
+returns-then-is_life c =
     let rule = answer c.args.rule.now in
-    let same = life_answers c.args.rule.now (sym c.if-is-life.ensures) in
-    let codes : (i : ℕ) → code_in c.life-table.result i ≡ code_at rule i =
-    λ i. c.life-table.ensures i ∙ ap (λ (other : Bool → ℕ → Bool). code_at other i) (sym same) in
-    record { codes = codes; tell = table_tells rule c.life-table.result codes }
+    let same = life_answers c.args.rule.now (sym c.if-is_life.ensures) in
+    let codes : (i : ℕ) → code_in c.life_table.result i ≡ code_at rule i =
+    λ i. c.life_table.ensures i ∙ ap (λ (other : Bool → ℕ → Bool). code_at other i) (sym same) in
+    record { codes = codes; tell = table_tells rule c.life_table.result codes }
 
 pub returns : goal.returns
-returns c = record { codes = c.worked-out.ensures; tell = table_tells (answer c.args.rule.now) c.worked-out.result c.worked-out.ensures }
+returns c = record { codes = c.worked_out.ensures; tell = table_tells (answer c.args.rule.now) c.worked_out.result c.worked_out.ensures }

@@ -4,22 +4,22 @@ use Rattle.std.proofs.lemmas.List.{nil_from_length}
 use Rattle.lines.specs.Lines.{line_length, trimmed}
 use Rattle.lines.proofs.lines.Lines.next_line.Goals as goal
 
-pub returns-then-is-empty : goal.returns-then-is-empty
-returns-then-is-empty c =
+pub returns-then-is_empty : goal.returns-then-is_empty
+returns-then-is_empty c =
     let none : length c.args.self.now.rest.now ≡ 0 = search rules in
     record { line = (nil_from_length _ none, refl); less = tt; rest = omega arith }
 
 pub returns : goal.returns
 returns c =
     let old = c.args.self.now.rest.now in
-    let end = c.line-end-end.result in
-    let len = c.trimmed-len-len.result in
+    let end = c.line_end-end.result in
+    let len = c.trimmed_len-len.result in
     let some : 0 < length old = search rules in
-    let ends : end ≡ line_length old = c.line-end-end.ensures.value ∙ zero-add (line_length old) in
+    let ends : end ≡ line_length old = c.line_end-end.ensures.value ∙ zero-add (line_length old) in
     let less : length c.after-self.result.now < length old = omega (arith, ap length c.after-self.ensures, length-drop (end + 1) old) in
     record {
       line = (
-        ap (λ n. take n (take (end - 0) old)) (sub-zero len) ∙ c.trimmed-len-len.ensures.value ∙ ap (λ n. trimmed (take n old)) (sub-zero end ∙ ends),
+        ap (λ n. take n (take (end - 0) old)) (sub-zero len) ∙ c.trimmed_len-len.ensures.value ∙ ap (λ n. trimmed (take n old)) (sub-zero end ∙ ends),
         c.after-self.ensures ∙ ap (λ n. drop n old) (add-one end ∙ ap suc ends),
       );
       less = less;

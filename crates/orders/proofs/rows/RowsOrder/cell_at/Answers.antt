@@ -3,8 +3,8 @@ use Rattle.std.proofs.lemmas.Nat.{mod_below}
 use Rattle.orders.specs.Turns.{row_below}
 use Rattle.orders.proofs.rows.RowsOrder.cell_at.Goals as goal
 
-pub number-of-requires : goal.number-of-requires
-number-of-requires c =
+pub number_of-requires : goal.number_of-requires
+number_of-requires c =
     let f = c.args.frame.now in
     let rank = c.args.rank in
     let row : rank / f.period / f.width < f.height = row_below f.width f.height f.period f.wide f.tall f.lasting rank (omega arith) in

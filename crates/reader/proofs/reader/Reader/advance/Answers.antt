@@ -4,26 +4,26 @@ use Rattle.rle.specs.Spots.{Spot}
 use Rattle.reader.proofs.Places.{spot_newline, spot_byte, line_bound, column_bound}
 use Rattle.reader.proofs.reader.Reader.advance.Goals as goal
 
-pub overflow-add-self-then-byte-eq10 : goal.overflow-add-self-then-byte-eq10
-overflow-add-self-then-byte-eq10 c =
+pub overflow_add-self-then-byte-eq10 : goal.overflow_add-self-then-byte-eq10
+overflow_add-self-then-byte-eq10 c =
     let was = c.args.self.now in
     omega (arith, line_bound was.text.now was.at, was.lined, was.within, was.short)
 
-pub overflow-add-self-else-byte-eq10 : goal.overflow-add-self-else-byte-eq10
-overflow-add-self-else-byte-eq10 c =
+pub overflow_add-self-else-byte-eq10 : goal.overflow_add-self-else-byte-eq10
+overflow_add-self-else-byte-eq10 c =
     let was = c.args.self.now in
     omega (arith, column_bound was.text.now was.at, was.columned, was.within, was.short)
 
-pub invariant-of-self : goal.invariant-of-self
-invariant-of-self c =
+pub invariant_of-self : goal.invariant_of-self
+invariant_of-self c =
     let was = c.args.self.now in
     let spot = spot_newline was.text.now was.at (omega arith) (omega arith) in (
       was.short,
       (omega arith, (ap (λ (s : Spot). s.line) spot ∙ ap (λ n. n + 1) was.lined, (ap (λ (s : Spot). s.column) spot, tt))),
     )
 
-pub invariant-of-self-else-byte-eq10 : goal.invariant-of-self-else-byte-eq10
-invariant-of-self-else-byte-eq10 c =
+pub invariant_of-self-else-byte-eq10 : goal.invariant_of-self-else-byte-eq10
+invariant_of-self-else-byte-eq10 c =
     let was = c.args.self.now in
     let spot = spot_byte was.text.now was.at (omega arith) c.if-byte-eq10.false in (
       was.short,

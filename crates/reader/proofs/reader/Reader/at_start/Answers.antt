@@ -2,6 +2,6 @@ use Rattle.std.proofs.Common.{refl, arith}
 use Rattle.rle.specs.Spots.{spot_past}
 use Rattle.reader.proofs.reader.Reader.at_start.Goals as goal
 
-pub invariant-of-result : goal.invariant-of-result
+pub invariant_of-result : goal.invariant_of-result
 unfolding spot_past
-invariant-of-result c = (c.requires, (omega arith, (refl, (refl, tt))))
+invariant_of-result c = (c.requires, (omega arith, (refl, (refl, tt))))

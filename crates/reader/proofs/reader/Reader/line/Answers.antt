@@ -16,21 +16,21 @@ ends t line i h e =
     let same = ap length e ∙ length_line (drop i t) in
     (same, omega (arith, same, line_within (drop i t), length-drop i t))
 
-pub overflow-cast-self : goal.overflow-cast-self
-overflow-cast-self c =
+pub overflow_cast-self : goal.overflow_cast-self
+overflow_cast-self c =
     let was = c.args.self.now in
-    omega (arith, (ends was.text.now c.line-here-line.result.now was.at was.within c.line-here-line.ensures).1, was.short)
+    omega (arith, (ends was.text.now c.line_here-line.result.now was.at was.within c.line_here-line.ensures).1, was.short)
 
-pub overflow-add-self-2 : goal.overflow-add-self-2
-overflow-add-self-2 c =
+pub overflow_add-self-2 : goal.overflow_add-self-2
+overflow_add-self-2 c =
     let was = c.args.self.now in
-    omega (arith, (ends was.text.now c.line-here-line.result.now was.at was.within c.line-here-line.ensures).1, was.short, column_bound was.text.now was.at, was.columned)
+    omega (arith, (ends was.text.now c.line_here-line.result.now was.at was.within c.line_here-line.ensures).1, was.short, column_bound was.text.now was.at, was.columned)
 
-pub invariant-of-self : goal.invariant-of-self
-invariant-of-self c =
+pub invariant_of-self : goal.invariant_of-self
+invariant_of-self c =
     let was = c.args.self.now in
-    let line = c.line-here-line.result.now in
-    let here = ends was.text.now line was.at was.within c.line-here-line.ensures in
+    let line = c.line_here-line.result.now in
+    let here = ends was.text.now line was.at was.within c.line_here-line.ensures in
     let spot : spot_at was.text.now (was.at + length line) ≡ record { line = (spot_at was.text.now was.at).line; column = (spot_at was.text.now was.at).column + line_length (left was) } =
     ap (λ n. spot_at was.text.now (was.at + n)) here.0 ∙ spot_line was.text.now was.at in
     let column : (spot_at was.text.now (was.at + length line)).column ≡ was.column + length line = omega (arith, ap (λ (s : Spot). s.column) spot, here.0, was.columned) in
@@ -42,16 +42,16 @@ over t line i h e x told =
     let here = ap (this_byte 10) (sym (drop-drop (length line) i t) ∙ ap (λ n. drop n (drop i t)) (ends t line i h e).0) in
     onto (λ _ rest. good line rest) x _ (told ∙ here) ∙ ap (λ l. and_then (line_over (drop i t)) (λ _ rest. good l rest)) e
 
-pub returns-in-err-this-byte : goal.returns-in-err-this-byte
-returns-in-err-this-byte c =
+pub returns-in_err-this_byte : goal.returns-in_err-this_byte
+returns-in_err-this_byte c =
     let was = c.args.self.now in
-    let told = c.in-err-this-byte.ensures in
-    let cause = c.in-err-this-byte.field-0.0 in
-    let new = c.this-byte.new.self in
-    broken _ whole_line was new c.from-residual.result cause c.from-residual.ensures.1 told.text (over was.text.now c.line-here-line.result.now was.at was.within c.line-here-line.ensures (bad cause (left new)) told.told)
+    let told = c.in_err-this_byte.ensures in
+    let cause = c.in_err-this_byte.field-0.0 in
+    let new = c.this_byte.new.self in
+    broken _ whole_line was new c.from_residual.result cause c.from_residual.ensures.1 told.text (over was.text.now c.line_here-line.result.now was.at was.within c.line_here-line.ensures (bad cause (left new)) told.told)
 
 pub returns : goal.returns
 returns c =
     let was = c.args.self.now in
-    let told = c.in-ok-this-byte.ensures in
-    record { text = told.text; told = over was.text.now c.line-here-line.result.now was.at was.within c.line-here-line.ensures (good tt (left c.this-byte.new.self)) told.told }
+    let told = c.in_ok-this_byte.ensures in
+    record { text = told.text; told = over was.text.now c.line_here-line.result.now was.at was.within c.line_here-line.ensures (good tt (left c.this_byte.new.self)) told.told }

@@ -9,9 +9,9 @@ returns-in-None c = record { text = refl; told = numeral_none (left c.args.self.
 pub returns-in-Some : goal.returns-in-Some
 returns-in-Some c =
     let told = c.digits.ensures in
-    let same = numeral_digits (left c.args.self.now) c.in-Some.byte (sym c.in-Some.ensures) (sym c.if-is-digit-from.ensures) in
+    let same = numeral_digits (left c.args.self.now) c.in-Some.byte (sym c.in-Some.ensures) (sym c.if-is_digit_from.ensures) in
     record { text = told.text; told = told.told ∙ same }
 
 pub returns-in-Some-2 : goal.returns-in-Some-2
 returns-in-Some-2 c =
-    record { text = refl; told = numeral_wrong (left c.args.self.now) c.in-Some.byte (sym c.in-Some.ensures) (sym c.if-is-digit-from.ensures) }
+    record { text = refl; told = numeral_wrong (left c.args.self.now) c.in-Some.byte (sym c.in-Some.ensures) (sym c.if-is_digit_from.ensures) }

@@ -9,11 +9,11 @@ pub returns : goal.returns
 returns c =
     let was = c.args.self.now in
     let bare = c.args.bare in
-    let keyed = c.in-ok-in-turn.ensures in
-    let line = c.in-ok-rest.ensures in
-    let rest = c.in-ok-rest.rest.now in
-    let kept = ap (λ n. take n rest) (sub-zero c.trimmed-len-len.result) ∙ c.trimmed-len-len.ensures.value in
+    let keyed = c.in_ok-in_turn.ensures in
+    let line = c.in_ok-rest.ensures in
+    let rest = c.in_ok-rest.rest.now in
+    let kept = ap (λ n. take n rest) (sub-zero c.trimmed_len-len.result) ∙ c.trimmed_len-len.ensures.value in
     record {
-      text = same_text was c.in-turn.new.self c.line.new.self line.text keyed.text;
-      told = ruled_told was.text.now bare.line.now bare.width bare.height (left was) (left c.in-turn.new.self) (left c.line.new.self) rest _ c.in-turn.new.self.column keyed.told line.told kept (here_column was.text.now c.in-turn.new.self keyed.text);
+      text = same_text was c.in_turn.new.self c.line.new.self line.text keyed.text;
+      told = ruled_told was.text.now bare.line.now bare.width bare.height (left was) (left c.in_turn.new.self) (left c.line.new.self) rest _ c.in_turn.new.self.column keyed.told line.told kept (here_column was.text.now c.in_turn.new.self keyed.text);
     }

@@ -5,22 +5,22 @@ use Rattle.reader.proofs.Numerals.{judged_good, judged_bad}
 use Rattle.reader.proofs.Parts.{broken, onto}
 use Rattle.reader.proofs.reader.Reader.size.Goals as goal
 
-pub returns-in-err-number : goal.returns-in-err-number
+pub returns-in_err-number : goal.returns-in_err-number
 unfolding size
-returns-in-err-number c =
-    let told = c.in-err-number.ensures in
-    broken _ _ _ _ _ _ c.from-residual.ensures.1 told.text (onto (judged (left c.args.self.now)) (bad _ _) _ told.told)
+returns-in_err-number c =
+    let told = c.in_err-number.ensures in
+    broken _ _ _ _ _ _ c.from_residual.ensures.1 told.text (onto (judged (left c.args.self.now)) (bad _ _) _ told.told)
 
 pub returns-then-number-gt32 : goal.returns-then-number-gt32
 unfolding size
 returns-then-number-gt32 c =
-    let told = c.in-ok-number.ensures in
+    let told = c.in_ok-number.ensures in
     let start = left c.args.self.now in
-    record { text = refl; told = judged_bad start c.in-ok-number.number _ c.if-number-gt32.true ∙ onto (judged start) (good c.in-ok-number.number (left c.numeral.new.self)) _ told.told }
+    record { text = refl; told = judged_bad start c.in_ok-number.number _ c.if-number-gt32.true ∙ onto (judged start) (good c.in_ok-number.number (left c.numeral.new.self)) _ told.told }
 
 pub returns : goal.returns
 unfolding size
 returns c =
-    let told = c.in-ok-number.ensures in
+    let told = c.in_ok-number.ensures in
     let start = left c.args.self.now in
-    record { text = told.text; told = judged_good start c.in-ok-number.number _ c.if-number-gt32.false ∙ onto (judged start) (good c.in-ok-number.number (left c.numeral.new.self)) _ told.told }
+    record { text = told.text; told = judged_good start c.in_ok-number.number _ c.if-number-gt32.false ∙ onto (judged start) (good c.in_ok-number.number (left c.numeral.new.self)) _ told.told }

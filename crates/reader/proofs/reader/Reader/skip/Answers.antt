@@ -16,5 +16,5 @@ loop-byte-preserved c =
 
 pub returns : goal.returns
 returns c =
-    let same = past_ends (filler c.args.gap) (left c.loop-byte.self) (sym c.in-default.ensures) in
+    let same = past_ends (filler c.args.gap) (left c.loop-byte.self) (sym c.in_default.ensures) in
     record { text = c.loop-byte.invariant.0; over = sym same ∙ c.loop-byte.invariant.1 }

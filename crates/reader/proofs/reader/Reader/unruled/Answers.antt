@@ -10,8 +10,8 @@ returns c =
     let was = c.args.self.now in
     let bare = c.args.bare in
     let mid = c.skip.new.self in
-    let told = c.in-ok-this-byte.ensures in
+    let told = c.in_ok-this_byte.ensures in
     record {
       text = told.text ∙ c.skip.ensures.text;
-      told = unruled_told was.text.now bare.line.now bare.width bare.height (left mid) (left c.this-byte.new.self) mid.column told.told (here_column was.text.now mid c.skip.ensures.text) ∙ ap (λ t. retold (told_head was.text.now bare.line.now) (unruled bare.width bare.height t)) c.skip.ensures.over;
+      told = unruled_told was.text.now bare.line.now bare.width bare.height (left mid) (left c.this_byte.new.self) mid.column told.told (here_column was.text.now mid c.skip.ensures.text) ∙ ap (λ t. retold (told_head was.text.now bare.line.now) (unruled bare.width bare.height t)) c.skip.ensures.over;
     }

@@ -2,23 +2,23 @@ use Rattle.std.proofs.Common.{◌≡◌, ◌-◌, ◌%◌, ◌<◌, length, sym,
 use Rattle.rules.proofs.Forms.{even_read, odd_read, accepted}
 use Rattle.rules.proofs.Steps.{empty_text, other_front, births_last, no_slash, no_letter, text_left, text_read}
 use Rattle.rules.proofs.rule.Rule.parse.Goals as goal
-use Rattle.rules.proofs.rule.Rule.parse.Goals.{then-is-empty-via-then-is-empty, then-is-empty-via-else-is-empty+then-text-ne66}
+use Rattle.rules.proofs.rule.Rule.parse.Goals.{then-is_empty-via-then-is_empty, then-is_empty-via-else-is_empty+then-text-ne66}
 use Rattle.rules.proofs.rule.Rule.parse.Goals.{then-text-end-lt2-via-then-text-end-lt2, then-text-end-lt2-via-else-text-end-lt2+then-text-end-ne47}
 use Rattle.rules.proofs.rule.Rule.parse.Goals.{then-text-end-lt2-via-else-text-end-lt2+else-text-end-ne47+then-text-end-ne83}
 
-pub returns-then-is-empty : goal.returns-then-is-empty
-returns-then-is-empty c =
+pub returns-then-is_empty : goal.returns-then-is_empty
+returns-then-is_empty c =
     let t = c.args.text.now in
-    elim c.then-is-empty.branch [
-      | then-is-empty-via-then-is-empty w ↦ let none : length t ≡ 0 = search rules in record { value = sym (empty_text t none); form = tt }
-      | then-is-empty-via-else-is-empty+then-text-ne66 w ↦ record { value = sym (other_front t w.if-text-ne66.true); form = tt }
+    elim c.then-is_empty.branch [
+      | then-is_empty-via-then-is_empty w ↦ let none : length t ≡ 0 = search rules in record { value = sym (empty_text t none); form = tt }
+      | then-is_empty-via-else-is_empty+then-text-ne66 w ↦ record { value = sym (other_front t w.if-text-ne66.true); form = tt }
     ]
 
 pub returns-then-text-end-lt2 : goal.returns-then-text-end-lt2
 returns-then-text-end-lt2 c =
     let t = c.args.text.now in
-    let births = c.rising-digits-births.result in
-    let row = c.rising-digits-births.ensures.row in
+    let births = c.rising_digits-births.result in
+    let row = c.rising_digits-births.ensures.row in
     let some : 0 < length t = omega arith in
     let front = c.if-text-ne66.false in
     elim c.then-text-end-lt2.branch [
@@ -32,30 +32,30 @@ returns-then-text-end-lt2 c =
 pub returns-then-survivals-text : goal.returns-then-survivals-text
 returns-then-survivals-text c =
     let t = c.args.text.now in
-    let births = c.rising-digits-births.result in
-    let survivals = c.rising-digits-survivals.result in
+    let births = c.rising_digits-births.result in
+    let survivals = c.rising_digits-survivals.result in
     record {
-      value = sym (text_left t births.set births.end (omega arith) c.if-text-ne66.false c.rising-digits-births.ensures.row c.if-text-end-lt2.false
-          c.if-text-end-ne47.false c.if-text-end-ne83.false survivals.set survivals.end c.rising-digits-survivals.ensures.row (omega arith));
+      value = sym (text_left t births.set births.end (omega arith) c.if-text-ne66.false c.rising_digits-births.ensures.row c.if-text-end-lt2.false
+          c.if-text-end-ne47.false c.if-text-end-ne83.false survivals.set survivals.end c.rising_digits-survivals.ensures.row (omega arith));
       form = tt;
     }
 
 pub returns-then-births-eq1 : goal.returns-then-births-eq1
 returns-then-births-eq1 c =
     let t = c.args.text.now in
-    let births = c.rising-digits-births.result in
-    let survivals = c.rising-digits-survivals.result in
-    let read = text_read t births.set births.end (omega arith) c.if-text-ne66.false c.rising-digits-births.ensures.row c.if-text-end-lt2.false
-    c.if-text-end-ne47.false c.if-text-end-ne83.false survivals.set survivals.end c.rising-digits-survivals.ensures.row c.if-survivals-text.false in
+    let births = c.rising_digits-births.result in
+    let survivals = c.rising_digits-survivals.result in
+    let read = text_read t births.set births.end (omega arith) c.if-text-ne66.false c.rising_digits-births.ensures.row c.if-text-end-lt2.false
+    c.if-text-end-ne47.false c.if-text-end-ne83.false survivals.set survivals.end c.rising_digits-survivals.ensures.row c.if-survivals-text.false in
     record { value = sym (read ∙ odd_read births.set survivals.set c.if-births-eq1.true); form = tt }
 
 pub returns : goal.returns
 returns c =
     let t = c.args.text.now in
-    let births = c.rising-digits-births.result in
-    let survivals = c.rising-digits-survivals.result in
+    let births = c.rising_digits-births.result in
+    let survivals = c.rising_digits-survivals.result in
     let even : births.set % 2 ≡ 0 = omega arith in
-    let read = text_read t births.set births.end (omega arith) c.if-text-ne66.false c.rising-digits-births.ensures.row c.if-text-end-lt2.false
-    c.if-text-end-ne47.false c.if-text-end-ne83.false survivals.set survivals.end c.rising-digits-survivals.ensures.row c.if-survivals-text.false in
+    let read = text_read t births.set births.end (omega arith) c.if-text-ne66.false c.rising_digits-births.ensures.row c.if-text-end-lt2.false
+    c.if-text-end-ne47.false c.if-text-end-ne83.false survivals.set survivals.end c.rising_digits-survivals.ensures.row c.if-survivals-text.false in
     let whole = read ∙ even_read births.set survivals.set even in
     record { value = sym whole; form = (accepted t births.set survivals.set whole).3 }

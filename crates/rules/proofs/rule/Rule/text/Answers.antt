@@ -8,12 +8,12 @@ use Rattle.rules.proofs.rule.Rule.text.Goals as goal
 pub returns : goal.returns
 returns c =
     let r = c.args.self.now in
-    let first = c.put-digits-end.new.bytes in
-    let last = c.put-digits-len.new.bytes in
-    let end = c.put-digits-end.result in
-    let len = c.put-digits-len.result in
+    let first = c.put_digits-end.new.bytes in
+    let last = c.put_digits-len.new.bytes in
+    let end = c.put_digits-end.result in
+    let len = c.put_digits-len.result in
     let text : take len last ≡ written r.births r.survivals =
-    text_put first last r.births r.survivals end len c.put-digits-end.ensures.digits (omega arith) c.put-digits-len.ensures.digits in
+    text_put first last r.births r.survivals end len c.put_digits-end.ensures.digits (omega arith) c.put_digits-len.ensures.digits in
     record {
       bytes = text;
       len = sym (length-take-le len last (omega arith)) ∙ ap length text;
