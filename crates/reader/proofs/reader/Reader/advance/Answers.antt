@@ -17,18 +17,12 @@ overflow_add-self-else-byte-eq10 c =
 pub invariant_of-self : goal.invariant_of-self
 invariant_of-self c =
     let was = c.args.self.now in
-    let spot = spot_newline was.text.now was.at (omega arith) (omega arith) in (
-      was.short,
-      (omega arith, (ap (λ (s : Spot). s.line) spot ∙ ap (λ n. n + 1) was.lined, (ap (λ (s : Spot). s.column) spot, tt))),
-    )
+    let spot = spot_newline was.text.now was.at (omega arith) (omega arith) in record { short = was.short; within = omega arith; lined = ap (λ (s : Spot). s.line) spot ∙ ap (λ n. n + 1) was.lined; columned = ap (λ (s : Spot). s.column) spot }
 
 pub invariant_of-self-else-byte-eq10 : goal.invariant_of-self-else-byte-eq10
 invariant_of-self-else-byte-eq10 c =
     let was = c.args.self.now in
-    let spot = spot_byte was.text.now was.at (omega arith) c.if-byte-eq10.false in (
-      was.short,
-      (omega arith, (ap (λ (s : Spot). s.line) spot ∙ was.lined, (ap (λ (s : Spot). s.column) spot ∙ ap (λ n. n + 1) was.columned, tt))),
-    )
+    let spot = spot_byte was.text.now was.at (omega arith) c.if-byte-eq10.false in record { short = was.short; within = omega arith; lined = ap (λ (s : Spot). s.line) spot ∙ was.lined; columned = ap (λ (s : Spot). s.column) spot ∙ ap (λ n. n + 1) was.columned }
 
 pub returns-then-byte-eq10 : goal.returns-then-byte-eq10
 returns-then-byte-eq10 c = record { text = refl; over = sym (drop-drop 1 c.args.self.now.at c.args.self.now.text.now) }

@@ -4,4 +4,4 @@ use Rattle.reader.proofs.reader.Reader.at_start.Goals as goal
 
 pub invariant_of-result : goal.invariant_of-result
 unfolding spot_past
-invariant_of-result c = (c.requires, (omega arith, (refl, (refl, tt))))
+invariant_of-result c = record { short = c.requires; within = omega arith; lined = refl; columned = refl }

@@ -34,7 +34,7 @@ invariant_of-self c =
     let spot : spot_at was.text.now (was.at + length line) ≡ record { line = (spot_at was.text.now was.at).line; column = (spot_at was.text.now was.at).column + line_length (left was) } =
     ap (λ n. spot_at was.text.now (was.at + n)) here.0 ∙ spot_line was.text.now was.at in
     let column : (spot_at was.text.now (was.at + length line)).column ≡ was.column + length line = omega (arith, ap (λ (s : Spot). s.column) spot, here.0, was.columned) in
-    (was.short, (here.1, (ap (λ (s : Spot). s.line) spot ∙ was.lined, (column, tt))))
+    record { short = was.short; within = here.1; lined = ap (λ (s : Spot). s.line) spot ∙ was.lined; columned = column }
 
 -- what is left then starts where the line ends
 over : (t line : List ℕ) (i : ℕ) → i ≤ length t → line ≡ first_line (drop i t) → (x : Scan (Unit {0})) → x ≡ this_byte 10 (drop (i + length line) t) → and_then x (λ _ rest. good line rest) ≡ whole_line (drop i t)
