@@ -101,22 +101,22 @@ def imported(text):
     return found
 
 
-def turn_code(text, table, prose=False):
+def turn_code(text, table, prose=False, steps=False):
     """The text with each name of the table turned; in prose only those in code spans."""
     if prose:
         return re.sub(r"\x60[^\x60\n]+\x60", lambda m: turn_code(m[0], table), text)
     out, at = [], 0
     for m in re.finditer(r'"(?:[^"\\\n]|\\.)*"|(?m:(?:^|(?<=\s))--(?=\s|$).*$)', text):
-        out.append(turn_words(text[at : m.start()], table))
+        out.append(turn_words(text[at : m.start()], table, steps))
         out.append(turn_code(m[0], table, True) if m[0].startswith("--") else m[0])
         at = m.end()
-    out.append(turn_words(text[at:], table))
+    out.append(turn_words(text[at:], table, steps))
     return "".join(out)
 
 
-def turn_words(text, table):
-    """The text with each name of the table turned, but for the kit's names of steps and goals."""
-    return TOKEN.sub(lambda t: t[0] if STEP.search(text, max(0, t.start() - 8), t.start()) else table.get(t[0], t[0]), text)
+def turn_words(text, table, steps):
+    """The text with each name of the table turned; where it has steps, the kit's names of steps and goals stay."""
+    return TOKEN.sub(lambda t: t[0] if steps and STEP.search(text, max(0, t.start() - 8), t.start()) else table.get(t[0], t[0]), text)
 
 
 def turn_rust(text, table):
@@ -153,7 +153,7 @@ def main():
             for k in sorted((set(table) - set(mine)) & set(TOKEN.findall(code(before)))):
                 print(f"look: {path}: {k} is the library's here: stays")
         if path.endswith(".antt"):
-            after = turn_code(before, mine)
+            after = turn_code(before, mine, False, path.endswith(("/Answers.antt", "/Invariants.antt")))
         elif path.endswith(".rt"):
             after = turn_rust(before, mine)
         elif path.endswith(".edit"):

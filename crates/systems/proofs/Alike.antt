@@ -1,6 +1,5 @@
 -- Systems with the same instances come to the same.
 use Rattle.std.proofs.Common.{◌≡◌, ℕ, ◌+◌, ◌<◌, Bool, true, false, cond, eqb, List, [], ◌∷◌, ◌++◌, length, get_or, sym, refl, ap, ◌∙◌, subst, ap₂, inl, inr, arith}
-use Rattle.std.proofs.lemmas.List.{ext_get_or}
 use Rattle.std.proofs.lemmas.Bool.{cases_eq, eq-eqb, ne_eqb, cond-true, cond-false}
 use Rattle.codes.specs.declared.value.Value.{Value}
 use Rattle.codes.specs.Codes.{Parts, code}
@@ -8,7 +7,6 @@ use Rattle.systems.specs.declared.instance.Instance.{Instance}
 use Rattle.systems.specs.Systems.{In, here, there, Sys, at, sum_of, on_one, unknown_one, descriptor_of, code_for, Mentions, as_centre, as_successor, as_neighbour, Below, whole, on_in, Holds, Sol, Proper}
 use Rattle.systems.specs.Settling.{Closed, Least, Dead}
 use Rattle.systems.proofs.Gathered.{in_left, in_right, in_either}
-use Rattle.systems.specs.Same.{SameInstance}
 use Rattle.systems.specs.Alike.{Rearranged, SameLooks, Covers, Alike, AlikeLaws}
 
 parts : Value → ℕ → ℕ → Value → Parts
@@ -79,10 +77,8 @@ looks_name i j s x (as_successor e) = as_successor (sym s.successor ∙ e)
 looks_name i j s x (as_neighbour m) = as_neighbour (rearranged_in i.neighbours j.neighbours s.neighbours x m)
 
 -- instances that were compared and found the same ask the same
-pub same_looks : (i j : Instance) → length i.neighbours ≡ 8 → length j.neighbours ≡ 8 → SameInstance i j → SameLooks i j
-same_looks i j a b e =
-    let q = ext_get_or 0 i.neighbours j.neighbours (a ∙ sym b) (λ k l. e.neighbours k (omega arith)) in
-    record { centre = e.centre; successor = e.successor; neighbours = λ g. ap (sum_of g) q }
+pub same_looks : (i j : Instance) → i ≡ j → SameLooks i j
+same_looks i j e = record { centre = ap (λ (k : Instance). k.centre) e; successor = ap (λ (k : Instance). k.successor) e; neighbours = λ g. ap (λ (k : Instance). sum_of g k.neighbours) e }
 
 -- ---- instances kept once while they are gathered
 looks_itself : (i : Instance) → SameLooks i i
@@ -114,7 +110,7 @@ module _ (S S' : Sys) (a : Alike S S') where
   pub closed_alike : (v : ℕ → Value) → Closed S v → Closed S' v
   closed_alike v c =
       record {
-        not_torn = sym a.torn ∙ c.not-torn;
+        not_torn = sym a.torn ∙ c.not_torn;
         quiet = λ j m.
             let q = a.back j m in
             code_looks S'.rule v j q.0 q.2 ∙ ap (λ (r : Bool → ℕ → Bool). code_for r v q.0) (sym a.rule) ∙ c.quiet q.0 q.1;

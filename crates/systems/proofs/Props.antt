@@ -31,7 +31,7 @@ below_prop v w = Π_prop (λ x. Π_prop (λ b. Π_prop (λ e. value_set (w x) (k
 
 closed_prop : (S : Sys) (v : ℕ → Value) → IsProp (Closed S v)
 closed_prop S v c d = λ i. record {
-  not_torn = Bool-set S.torn false c.not-torn d.not_torn i;
+  not_torn = Bool-set S.torn false c.not_torn d.not_torn i;
   quiet = Π_prop (λ j. Π_prop (λ m. hedberg ℕ_discrete (code_for S.rule v j) 0)) c.quiet d.quiet i;
 }
 

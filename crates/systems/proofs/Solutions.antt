@@ -101,7 +101,7 @@ pub closed_sol : (S : Sys) → Proper S → (f : List Bool) → length f ≡ len
 closed_sol S proper f l h c =
     record {
       size = l;
-      not_torn = c.not-torn;
+      not_torn = c.not_torn;
       musts = λ x b e. at_known f x b (h x b e);
       holds = λ i m. fit_holds f (at (map known f)) S.rule i (not_one S.rule (at (map known f)) i (c.quiet i m))
           (λ x k. at_map f x (omega (arith, proper.mentions i m x k)));

@@ -238,7 +238,7 @@ module _ (s : Surface) (inside : TiesInside s) where
               let w = in_instances s (numbers_in s) i m in
               subst (Holds (answer r) (gather s f)) (sym w.same)
               (holds_there s (gather s f) (gather_nothing f) r w.t (ninth w.i) (ninth w.j)
-              (subst (λ (h : List Bool). InstanceHolds s r h w.t (ninth w.i) (ninth w.j)) (sym spread_gather) (k.instances w.t w.j w.i w.in-time w.in_rows w.in-columns)));
+              (subst (λ (h : List Bool). InstanceHolds s r h w.t (ninth w.i) (ninth w.j)) (sym spread_gather) (k.instances w.t w.j w.i w.in_time w.in_rows w.in_columns)));
         }
 
   module _ (r : Rule) (cell : ℕ → ℕ) (g : List Bool) (k : Sol (system_of s r cell) g) where
