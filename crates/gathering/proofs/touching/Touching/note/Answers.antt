@@ -2,9 +2,9 @@ use Rattle.std.proofs.Common.{ℕ, ◌<◌, ◌≤◌, vec_items, vec_len, arith
 use Rattle.classes.proofs.Places.{each_more_if}
 use Rattle.gathering.proofs.touching.Touching.note.Goals as goal
 
-pub invariant-of-self : goal.invariant-of-self
-invariant-of-self c =
+pub invariant_of-self : goal.invariant_of-self
+invariant_of-self c =
     let was = c.args.self.now in
     let P : ℕ → ℕ → Type 0 = λ k v. v < was.instances in
     let longer : vec_len was.list ≤ vec_len c.push.new.self = search rules in
-    (was.few, ((λ k h. omega (arith, was.ended k h)), (each_more_if P 0 _ (vec_items was.list) (vec_items c.push.new.self) c.args.instance c.push.ensures.items was.touched c.requires, tt)))
+    record { few = was.few; ended = (λ k h. omega (arith, was.ended k h)); touched = each_more_if P 0 _ (vec_items was.list) (vec_items c.push.new.self) c.args.instance c.push.ensures.items was.touched c.requires }
