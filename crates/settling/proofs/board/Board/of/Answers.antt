@@ -2,10 +2,10 @@ use Rattle.std.proofs.Common.{◌≡◌, ℕ, ◌+◌, ◌<◌, length, get_or, 
 use Rattle.settling.proofs.Counted.{unknowns_le}
 use Rattle.settling.proofs.board.Board.of.Goals as goal
 
-pub invariant-of-result : goal.invariant-of-result
-invariant-of-result c =
-    let values = c.in-ok-values.values in
-    let trail = c.in-ok-trail.trail in
-    let made = c.in-ok-trail.ensures in
+pub invariant_of-result : goal.invariant_of-result
+invariant_of-result c =
+    let values = c.in_ok-values.values in
+    let trail = c.in_ok-trail.trail in
+    let made = c.in_ok-trail.ensures in
     let few = unknowns_le (vec_items values) in
-    (search rules, ((λ k h. absurd (omega (arith, trail.ok.0, made.len, h))), (omega (arith, few, values.ok.0, made.len), (omega (arith, made.capacity, c.in-ok-values.ensures), (omega arith, tt)))))
+    record { sized = search rules; trailed = (λ k h. absurd (omega (arith, trail.ok.0, made.len, h))); room = omega (arith, few, values.ok.0, made.len); reserved = omega (arith, made.capacity, c.in_ok-values.ensures); reached = omega arith }
