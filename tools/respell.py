@@ -42,6 +42,9 @@ APART = {
     "turnAt": "turned_at",
 }
 
+# Ghost members of traits.
+MEMBERS = {"cellOf": "cell_of_rank", "rankOf": "rank_of_cell"}
+
 
 def turned(name):
     """How a name is spelled today."""
@@ -74,7 +77,7 @@ def code(text):
 
 def collect():
     """The names to be turned, each with its new spelling."""
-    table, made = {}, set()
+    table, made = dict(MEMBERS), set()
     for path in files("crates", ".antt"):
         for line in code(read(path)).split("\n"):
             m = DECLARED.match(line)

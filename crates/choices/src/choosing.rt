@@ -67,9 +67,9 @@ impl Space for Surface {
 }
 
 impl Order for AnyOrder {
-    ghost cellOf = { chosen_cell };
+    ghost cell_of_rank = { chosen_cell };
 
-    ghost rankOf = { chosen_rank };
+    ghost rank_of_cell = { chosen_rank };
 
     ghost within = { elim [
       | Rows ↦ λ f. rows_within f.width f.height f.period f.wide f.tall f.lasting

@@ -1,12 +1,11 @@
 -- Numbering the labels gives each class one number, in the sequence of the lowest cells.
-use Rattle.std.proofs.Common.{◌≡◌, ℕ, zero, suc, ◌+◌, ◌*◌, ◌<◌, ◌≤◌, Bool, true, false, cond, eqb, List, [], ◌∷◌, ◌++◌, length, get_or, take, sym, refl, ap, ◌∙◌, subst, inl, inr, add-one, arith}
+use Rattle.std.proofs.Common.{◌≡◌, ℕ, zero, suc, ◌+◌, ◌<◌, ◌≤◌, true, false, eqb, List, [], ◌∷◌, ◌++◌, length, get_or, take, sym, refl, ap, ◌∙◌, subst, inl, inr, add-one, arith}
 use Rattle.std.proofs.lemmas.List.{length_push, get_or_push, get_or_append_left, take_all}
 use Rattle.std.proofs.lemmas.Bool.{cases_eq, cases_order, eq-eqb, ne_eqb, cond-true, cond-false}
 use Rattle.frames.specs.Frames.{cells}
-use Rattle.rolls.specs.Joined.{Joined}
 use Rattle.rolls.specs.Rolls.{Surface}
-use Rattle.classes.specs.Classed.{numbers_in, class_of, lowest_of, class_count, ClassesRight, ClassesStand}
-use Rattle.classes.specs.Joins.{TiesInside, LabelsRight, label_of}
+use Rattle.classes.specs.Classed.{numbers_in, class_of, lowest_of, ClassesStand}
+use Rattle.classes.specs.Joins.{TiesInside, label_of}
 use Rattle.classes.specs.Labels.{joined_labels, Low}
 use Rattle.classes.specs.Numbers.{Numbers, next_class, next_lowest, numbered_too, numbered_from, numbers_of}
 use Rattle.classes.proofs.Joining.{labels_right, labels_low, labels_long}

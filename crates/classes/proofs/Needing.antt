@@ -1,5 +1,5 @@
 -- Off or on is asked of a class exactly when a row asks it of one of its cells.
-use Rattle.std.proofs.Common.{◌≡◌, ℕ, zero, suc, ◌+◌, ◌*◌, ◌/◌, ◌%◌, ◌<◌, ◌≤◌, Bool, true, false, ◌≢◌, ◌⊎◌, List, length, get_or, set, replicate, sym, refl, ap, ◌∙◌, subst, inl, inr, mul_comm, arith, length-set}
+use Rattle.std.proofs.Common.{◌≡◌, ℕ, zero, suc, ◌+◌, ◌*◌, ◌/◌, ◌%◌, ◌<◌, ◌≤◌, Bool, true, false, ◌⊎◌, List, length, get_or, set, replicate, sym, refl, ap, ◌∙◌, subst, inl, inr, mul_comm, arith, length-set}
 use lib.ListN.{length-replicate}
 use Rattle.std.proofs.lemmas.Nat.{mod_below, div_below, div-mul-add, mod-mul-add, mul-add-lt}
 use Rattle.std.proofs.lemmas.List.{get_or-set_same, get_or-set_other, get_or-replicate, get_or_past}
@@ -12,7 +12,7 @@ use Rattle.classes.specs.declared.classes.Musts.{Musts}
 use Rattle.classes.specs.Asked.{asked_after, asked_by, asks, must, unasked}
 use Rattle.classes.specs.Classed.{numbers_in, class_of, class_count}
 use Rattle.classes.specs.Joins.{TiesInside}
-use Rattle.classes.specs.Needed.{musts_in, AskedOf, MustsRight, MustsStand}
+use Rattle.classes.specs.Needed.{musts_in, AskedOf, MustsStand}
 use Rattle.classes.proofs.Classing.{classes_right}
 use Rattle.classes.proofs.Joining.{some_cells}
 

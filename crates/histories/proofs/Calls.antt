@@ -1,17 +1,17 @@
 -- Calls of go: each is a part of a run, and each state allows one.
-use Rattle.std.proofs.Common.{◌≡◌, ℕ, zero, suc, ◌+◌, ◌<◌, ◌≤◌, Bool, true, false, ◌⊎◌, List, [], ◌∷◌, ◌++◌, map, length, get_or, Some, None, sym, refl, ap, ◌∙◌, subst, inl, inr, append-nil, add-zero, arith}
+use Rattle.std.proofs.Common.{◌≡◌, ℕ, suc, ◌+◌, ◌<◌, ◌≤◌, Bool, false, List, [], ◌∷◌, ◌++◌, map, length, get_or, Some, sym, refl, ap, ◌∙◌, subst, inl, inr, append-nil, add-zero, arith}
 use lib.ListN.{length-map}
 use Rattle.codes.specs.declared.value.Value.{Value}
 use Rattle.codes.specs.declared.value.Value.TheVariants.{Unknown}
 use Rattle.codes.specs.Laws.{known}
-use Rattle.systems.specs.Systems.{In, Sys, at, Proper}
+use Rattle.systems.specs.Systems.{Sys, at, Proper}
 use Rattle.systems.specs.Settling.{Least, Dead}
 use Rattle.systems.specs.Alike.{Alike}
 use Rattle.systems.proofs.Base.{never, known_unknown, known_inj}
 use Rattle.systems.proofs.Settle.{least_one, least_dead}
 use Rattle.systems.proofs.Solutions.{at_map}
 use Rattle.systems.proofs.Alike.{least_alike, dead_alike}
-use Rattle.histories.specs.Searches.{Decision, sets, base, first_unknown, AllOn, no_more, one_on, Turns, last_off, later, State, Says, found, stepped, finished, Back, Move, tell, choose, turn, finish, Run, begun, moved, Reply, tells_find, done, paused, Go, tells_it, is_done, pauses, goes_on, finds, Calls, no_call, called}
+use Rattle.histories.specs.Searches.{Decision, base, first_unknown, AllOn, no_more, one_on, Turns, last_off, later, State, Says, found, Back, Move, tell, choose, turn, finish, Run, begun, moved, Reply, tells_find, paused, Go, tells_it, is_done, pauses, goes_on, finds, Calls, no_call, called}
 use Rattle.histories.specs.Laws.{GoOne, GoAlike}
 use Rattle.histories.proofs.Standing.{first_in, first_unknown_is}
 use Rattle.histories.proofs.Telling.{base_long}

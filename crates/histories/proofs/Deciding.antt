@@ -1,5 +1,5 @@
 -- What a program that decides by rank, settles and turns back goes by.
-use Rattle.std.proofs.Common.{◌≡◌, ℕ, zero, suc, ◌+◌, ◌<◌, ◌≤◌, Bool, true, false, ◌⊎◌, List, [], ◌∷◌, ◌++◌, map, length, get_or, set, Some, None, Option, sym, refl, ap, ◌∙◌, subst, inl, inr, arith}
+use Rattle.std.proofs.Common.{◌≡◌, ℕ, zero, suc, ◌<◌, Bool, true, false, List, [], ◌∷◌, ◌++◌, map, length, get_or, set, Some, None, Option, sym, refl, ap, ◌∙◌, inl, inr, arith}
 use Rattle.codes.specs.declared.value.Value.{Value}
 use Rattle.codes.specs.declared.value.Value.TheVariants.{Off, On, Unknown}
 use Rattle.codes.specs.Laws.{known}
@@ -7,7 +7,7 @@ use Rattle.systems.specs.Systems.{Sys, at, Below, Proper}
 use Rattle.systems.specs.Settling.{Least, Dead}
 use Rattle.systems.proofs.Base.{never, known_unknown, view}
 use Rattle.systems.proofs.Settle.{least_then, dead_then}
-use Rattle.histories.specs.Searches.{Decision, sets, base, or_else, first_unknown, AllOn, no_more, one_on, Turns, last_off, later, Stands, no_choice, choice}
+use Rattle.histories.specs.Searches.{Decision, sets, base, or_else, first_unknown, AllOn, no_more, one_on, Turns, last_off, later, Stands, choice}
 use Rattle.histories.specs.Going.{filled}
 use Rattle.histories.proofs.Standing.{first_in, first_unknown_is}
 use Rattle.histories.proofs.Telling.{base_long}

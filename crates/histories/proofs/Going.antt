@@ -1,5 +1,5 @@
 -- The search as it is computed makes the moves, and no state is without one.
-use Rattle.std.proofs.Common.{◌≡◌, ℕ, zero, suc, ◌+◌, ◌<◌, ◌≤◌, Bool, true, false, ◌⊎◌, List, [], ◌∷◌, ◌++◌, map, length, Some, None, Option, sym, refl, ap, ◌∙◌, subst, inl, inr, arith}
+use Rattle.std.proofs.Common.{◌≡◌, ℕ, zero, suc, ◌<◌, Bool, true, false, List, [], ◌∷◌, map, length, Some, None, Option, sym, refl, ap, ◌∙◌, inl, inr, arith}
 use Rattle.codes.specs.declared.value.Value.{Value}
 use Rattle.codes.specs.declared.value.Value.TheVariants.{Off, On, Unknown}
 use Rattle.codes.specs.Laws.{known}
@@ -8,7 +8,7 @@ use Rattle.systems.specs.Settling.{Least, settled}
 use Rattle.systems.proofs.Base.{never, known_unknown, view}
 use Rattle.systems.proofs.Settle.{settles_least, meets_dead}
 use Rattle.systems.proofs.Looking.{Comes, settled_comes}
-use Rattle.histories.specs.Searches.{Decision, sets, base, or_else, first_unknown, AllOn, no_more, one_on, Turns, last_off, later, Stands, State, Says, found, stepped, finished, Back, Move, tell, choose, turn, finish, Reply, tells_find, done, paused, Go, tells_it, is_done, pauses, goes_on}
+use Rattle.histories.specs.Searches.{Decision, sets, base, or_else, first_unknown, AllOn, no_more, one_on, Turns, last_off, later, Stands, State, Says, found, stepped, finished, Back, Move, tell, choose, turn, finish, Reply, paused, Go, tells_it, is_done, pauses, goes_on}
 use Rattle.histories.specs.Going.{turned_at, turned, onto, filled, Next, next_tell, next_end, next_step, next_back, next_told, next_choice, next_full, next_of, next, Gone, one_more, go_by, go}
 use Rattle.histories.specs.Laws.{NeverStuck, GoComputed, GoLaws}
 use Rattle.histories.proofs.Standing.{stands_adds, stands_push, stands_turn}

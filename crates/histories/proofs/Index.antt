@@ -1,7 +1,7 @@
 -- The place of decisions, and that each step raises it.
-use Rattle.std.proofs.Common.{◌≡◌, ℕ, zero, suc, ◌+◌, ◌*◌, ◌^◌, ◌<◌, ◌≤◌, Bool, true, false, List, [], ◌∷◌, ◌++◌, length, refl, arith, pow_pos}
+use Rattle.std.proofs.Common.{◌≡◌, ℕ, zero, suc, ◌+◌, ◌^◌, ◌<◌, ◌≤◌, true, false, List, [], ◌∷◌, ◌++◌, length, arith, pow_pos}
 use native.Mathlib.Nat.{two-pow-succ}
-use Rattle.histories.specs.Searches.{Decision, sets, AllOn, no_more, one_on, Turns, last_off, later, index}
+use Rattle.histories.specs.Searches.{Decision, sets, Turns, last_off, later, index}
 
 pub index_high : (h : ℕ) (ds : List Decision) → length ds ≤ h → 2 + index h ds ≤ 2 ^ suc h
 unfolding index

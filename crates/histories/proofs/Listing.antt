@@ -1,22 +1,20 @@
 -- Over every history of calls the finds told are the first of the roll.
-use Rattle.std.proofs.Common.{◌≡◌, ℕ, zero, suc, ◌+◌, ◌^◌, ◌<◌, ◌≤◌, Bool, true, false, ◌⊎◌, List, [], ◌∷◌, ◌++◌, map, get_or, sym, refl, ap, ◌∙◌, subst, inl, inr, append-nil, arith}
+use Rattle.std.proofs.Common.{◌≡◌, ℕ, zero, suc, ◌+◌, ◌<◌, ◌≤◌, Bool, true, false, List, [], ◌∷◌, ◌++◌, map, get_or, sym, ◌∙◌, subst, inl, inr, append-nil, arith}
 use Rattle.std.specs.List.{range_with_len}
 use Rattle.std.proofs.lemmas.Bool.{cases_eq}
 use Rattle.frames.specs.Frames.{cells}
 use Rattle.rules.specs.declared.rule.Rule.{Rule}
 use Rattle.rolls.specs.Rolls.{Surface, Roll}
 use Rattle.rolls.specs.Laws.{Orders, Before}
-use Rattle.classes.specs.Asked.{free_among}
 use Rattle.classes.specs.Classed.{numbers_in, class_of}
 use Rattle.classes.specs.Joins.{TiesInside}
-use Rattle.classes.specs.Needed.{musts_in}
-use Rattle.systems.specs.Systems.{In, here, there, Sys, Sol, Proper, unknowns}
+use Rattle.systems.specs.Systems.{In}
 use Rattle.systems.specs.Spaces.{system_of, spread, gather, classes_by_rank}
 use Rattle.systems.proofs.Base.{never, in_map, map_in}
 use Rattle.systems.proofs.Spaces.{solutions_right, spread_of}
-use Rattle.histories.specs.Searches.{State, fresh, Stands, no_choice, Move, finished, Run, begun, moved, Reply, tells_find, done, paused, Go, tells_it, is_done, pauses, goes_on, finds, Calls, ToCome, Sooner, side}
+use Rattle.histories.specs.Searches.{State, fresh, no_choice, Run, moved, Reply, done, Go, tells_it, is_done, pauses, goes_on, finds, ToCome, Sooner}
 use Rattle.histories.specs.Laws.{Ascending, Told}
-use Rattle.histories.specs.Listed.{Rising, Listed, told_of, After, HistoriesListed}
+use Rattle.histories.specs.Listed.{Rising, Listed, told_of, HistoriesListed}
 use Rattle.histories.proofs.Calls.{go_run, calls_run, pause_all, within}
 use Rattle.histories.proofs.Telling.{runs_tell}
 

@@ -1,5 +1,5 @@
 -- On which side of a state a filling lies, move by move.
-use Rattle.std.proofs.Common.{◌≡◌, ℕ, zero, suc, ◌+◌, ◌<◌, ◌≤◌, Bool, true, false, List, [], ◌∷◌, ◌++◌, get_or, sym, refl, ap, ◌∙◌, arith}
+use Rattle.std.proofs.Common.{ℕ, ◌≤◌, Bool, true, false, List, [], ◌∷◌, ◌++◌, get_or, arith}
 use Rattle.histories.specs.Searches.{Decision, sets, AllOn, no_more, one_on, Turns, last_off, later, side_at, side, bit}
 
 side_at_le : (a b : Bool) (s : ℕ) → s ≤ 2 → side_at a b s ≤ 2

@@ -1,15 +1,15 @@
 -- From any state a search tells what is to come, in sequence, each once.
-use Rattle.std.proofs.Common.{◌≡◌, ℕ, zero, suc, ◌+◌, ◌^◌, ◌<◌, ◌≤◌, Bool, true, false, ◌⊎◌, List, [], ◌∷◌, ◌++◌, map, length, get_or, set, Some, None, sym, refl, ap, ◌∙◌, inl, inr, append-nil, arith, length-set}
+use Rattle.std.proofs.Common.{◌≡◌, ℕ, ◌+◌, ◌≤◌, Bool, true, false, ◌⊎◌, List, [], ◌∷◌, ◌++◌, map, length, get_or, set, Some, sym, refl, ◌∙◌, inl, inr, append-nil, arith, length-set}
 use lib.ListN.{length-map}
 use Rattle.std.proofs.lemmas.List.{ext_get_or, length_push}
 use Rattle.std.proofs.lemmas.Bool.{cases_lt}
 use Rattle.codes.specs.declared.value.Value.{Value}
 use Rattle.codes.specs.Laws.{known}
-use Rattle.systems.specs.Systems.{In, here, there, Sys, at, Below, whole, Sol, Proper, unknowns}
-use Rattle.systems.specs.Settling.{Least, Dead}
+use Rattle.systems.specs.Systems.{In, here, there, Sys, at, whole, Sol, Proper, unknowns}
+use Rattle.systems.specs.Settling.{Least}
 use Rattle.systems.proofs.Base.{known_inj}
 use Rattle.systems.proofs.Solutions.{sol_closed, closed_sol, at_map, at_known}
-use Rattle.histories.specs.Searches.{Decision, sets, base, first_unknown, AllOn, Turns, Stands, State, Says, found, stepped, finished, Back, Move, tell, choose, turn, finish, tells, counts, Run, begun, moved, Sooner, side, bit, ToCome, index}
+use Rattle.histories.specs.Searches.{Decision, sets, base, first_unknown, Turns, Stands, State, Says, finished, Back, Move, tell, choose, turn, finish, tells, counts, Run, begun, moved, Sooner, side, bit, ToCome, index}
 use Rattle.histories.specs.Laws.{Ascending, Told, RunsTell}
 use Rattle.histories.proofs.Index.{index_high, index_turn, index_push}
 use Rattle.histories.proofs.Sides.{on_side, turn_side, push_side, bit_le}

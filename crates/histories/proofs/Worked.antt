@@ -1,5 +1,5 @@
 -- The worked examples of searches, by computing them.
-use Rattle.std.proofs.Common.{◌≡◌, ℕ, zero, suc, ◌+◌, ◌<◌, Bool, true, false, List, [], ◌∷◌, refl, arith, lit<}
+use Rattle.std.proofs.Common.{◌≡◌, ℕ, zero, suc, ◌<◌, List, [], ◌∷◌, refl, arith, lit<}
 use Rattle.frames.specs.Frames.{cells}
 use Rattle.rules.specs.declared.rule.Rule.{Rule}
 use Rattle.rolls.specs.Rolls.{Surface}
@@ -15,7 +15,7 @@ use Rattle.systems.specs.Settling.{set_by, settle, settled}
 use Rattle.systems.specs.Spaces.{system_of, instance_at, all_instances, start_of, classes_by_rank}
 use Rattle.systems.proofs.Spaces.{solutions_right}
 use Rattle.histories.specs.Searches.{State, fresh, Stands, no_choice}
-use Rattle.histories.specs.Going.{Gone, next, go}
+use Rattle.histories.specs.Going.{next, go}
 use Rattle.histories.specs.Examples.{Said, said_of, Answers, no_more_calls, and_then, SearchesWorked}
 use Rattle.histories.proofs.Going.{go_goes, go_stands}
 

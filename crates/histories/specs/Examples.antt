@@ -1,6 +1,5 @@
 -- Worked examples of searches: what calls of go answer, one after another from an opening.
-use Rattle.std.specs.Prelude.{ℕ, Bool, true, false, List, [], ◌∷◌}
-use Rattle.frames.specs.declared.frame.Frame.{Frame}
+use Rattle.std.specs.Prelude.{ℕ, Bool, List, [], ◌∷◌}
 use Rattle.rules.specs.declared.rule.Rule.{Rule}
 use Rattle.rolls.specs.Rolls.{Surface}
 use Rattle.rolls.specs.Examples.{plainly, around_torus, two_by_two, one_cell, leaping_cell, life, crowded, barren, O, b}

@@ -1,9 +1,8 @@
 -- The laws of the search of a system.
-use Rattle.std.specs.Prelude.{◌≡◌, ℕ, suc, ◌+◌, ◌^◌, ◌≤◌, Bool, ◌⊎◌, List, [], ◌∷◌, ◌++◌}
-use Rattle.codes.specs.declared.value.Value.{Value}
+use Rattle.std.specs.Prelude.{◌≡◌, ℕ, suc, ◌+◌, ◌^◌, ◌≤◌, Bool, ◌⊎◌, List, [], ◌∷◌}
 use Rattle.systems.specs.Systems.{In, Sys, unknowns, Proper}
 use Rattle.systems.specs.Alike.{Alike}
-use Rattle.histories.specs.Searches.{Decision, Stands, State, fresh, Says, finished, Move, Run, Reply, Go, ToCome, Sooner, index}
+use Rattle.histories.specs.Searches.{Stands, State, Says, finished, Move, Run, Reply, Go, ToCome, Sooner, index}
 use Rattle.histories.specs.Going.{go}
 
 -- fillings in dictionary order

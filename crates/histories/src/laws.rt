@@ -38,7 +38,7 @@ pub fn worked_searches_stand() -> u8
 
 // Any order of cells is one, as the law of histories asks for.
 pub fn order_stands<O: Order>(order: &O, frame: &Frame) -> u8
-    ensures { Orders (cells frame.now) (O.Order.cellOf order.now frame.now) (O.Order.rankOf order.now frame.now) }
+    ensures { Orders (cells frame.now) (O.Order.cell_of_rank order.now frame.now) (O.Order.rank_of_cell order.now frame.now) }
 {
     0
 }

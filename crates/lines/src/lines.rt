@@ -1,6 +1,7 @@
 ghost use Rattle.std.specs.Prelude.{◌≡◌, ◌+◌, ◌<◌, ◌≤◌, length, take, drop, OnSome};
 ghost use Rattle.lines.specs.Lines.{blank, line_length, trimmed};
-ghost use Rattle.lines.specs.Given.{NextLine};
+ghost use Rattle.lines.specs.Ends.{LineEnd, Trimmed, NextLine};
+ghost use Rattle.lines.specs.Given.{GivenLine};
 
 // Whether a byte is a blank: a space, a tab or a carriage return.
 pub fn is_blank(byte: u8) -> bool
@@ -16,6 +17,7 @@ pub fn is_blank(byte: u8) -> bool
 pub fn line_end(text: &[u8], at: usize) -> usize
     ensures value { result ≡ at + line_length (drop at text.now) }
     ensures within { at ≤ length text.now → result ≤ length text.now }
+    ensures ends { LineEnd text.now at result }
 {
     let mut end = at;
     while end < text.len() && text[end] != b'\n' {
@@ -28,6 +30,7 @@ pub fn line_end(text: &[u8], at: usize) -> usize
 pub fn trimmed_len(line: &[u8]) -> usize
     ensures value { take result line.now ≡ trimmed line.now }
     ensures within { result ≤ length line.now }
+    ensures kept { Trimmed line.now result }
 {
     let mut end = line.len();
     while end > 0 && is_blank(line[end - 1]) {
@@ -63,6 +66,7 @@ impl<'a> Lines<'a> {
     // The next line; a last newline opens none.
     pub fn next_line(&mut self) -> Option<&'a [u8]>
         ensures line { NextLine self.old.rest.now self.new.rest.now result }
+        ensures given { GivenLine self.old.rest.now self.new.rest.now result }
         ensures less { OnSome result (length self.new.rest.now < length self.old.rest.now) }
         ensures rest { length self.new.rest.now ≤ length self.old.rest.now }
     {

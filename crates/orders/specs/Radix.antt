@@ -1,7 +1,7 @@
 -- Numbers of three digits: from the digits to the number and back.
-use Rattle.std.specs.Prelude.{◌≡◌, ℕ, ◌+◌, ◌*◌, ◌/◌, ◌%◌, ◌<◌, ◌≤◌}
+use Rattle.std.specs.Prelude.{◌≡◌, ℕ, ◌+◌, ◌*◌, ◌/◌, ◌%◌, ◌<◌}
 use Rattle.std.proofs.Common.{ap, subst, sym, ◌∙◌, mul_comm, mul_assoc}
-use Rattle.std.proofs.lemmas.Nat.{div-mul-add, mod-mul-add, div-add-mod', div_below, mod_below, mul-add-lt}
+use Rattle.std.proofs.lemmas.Nat.{div-mul-add, mod-mul-add, div-add-mod', div_below, mul-add-lt}
 
 -- the number with the digits x, y and z, the last two to the bases b and c
 abbrev pub joined : ℕ → ℕ → ℕ → ℕ → ℕ → ℕ

@@ -1,5 +1,5 @@
 -- The laws of orders that rank by a cell's digits in another turn. A cell's own number has the digits t, y and x.
-use Rattle.std.specs.Prelude.{◌≡◌, ℕ, ◌+◌, ◌*◌, ◌/◌, ◌%◌, ◌<◌, ◌≤◌}
+use Rattle.std.specs.Prelude.{◌≡◌, ℕ, ◌*◌, ◌/◌, ◌%◌, ◌<◌}
 use Rattle.std.proofs.Common.{subst, sym, ◌∙◌}
 use Rattle.std.proofs.lemmas.Nat.{mod_below}
 use Rattle.orders.specs.Radix.{joined, joined_digits, joined_below, high_below, last_of, middle_of, first_of, last_first, first_swapped}

@@ -11,9 +11,9 @@ use frames::{Cell, Frame};
 pub struct Columns;
 
 impl Order for Columns {
-    ghost cellOf = { λ o. columns_cell };
+    ghost cell_of_rank = { λ o. columns_cell };
 
-    ghost rankOf = { λ o. columns_rank };
+    ghost rank_of_cell = { λ o. columns_rank };
 
     ghost within = { λ o f. columns_within f.width f.height f.period f.wide f.tall f.lasting };
 

@@ -8,9 +8,9 @@ use frames::Frame;
 pub struct Generations;
 
 impl Order for Generations {
-    ghost cellOf = { λ o f rank. rank };
+    ghost cell_of_rank = { λ o f rank. rank };
 
-    ghost rankOf = { λ o f cell. cell };
+    ghost rank_of_cell = { λ o f cell. cell };
 
     ghost within = { Prim.search rules };
 

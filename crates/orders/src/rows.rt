@@ -22,9 +22,9 @@ pub(crate) fn number_of(frame: &Frame, cell: Cell) -> u32
 }
 
 impl Order for Rows {
-    ghost cellOf = { λ o. rows_cell };
+    ghost cell_of_rank = { λ o. rows_cell };
 
-    ghost rankOf = { λ o. rows_rank };
+    ghost rank_of_cell = { λ o. rows_rank };
 
     ghost within = { λ o f. rows_within f.width f.height f.period f.wide f.tall f.lasting };
 

@@ -1,5 +1,4 @@
-ghost use Rattle.pages.specs.Pages.{Written};
-ghost use Rattle.printing.specs.Printed.{found_line, refused_line};
+ghost use Rattle.printing.specs.Printed.{Printed, found_line, refused_line};
 
 use numbers::decimal_len;
 use pages::{PageFault, put, put_number};
@@ -7,7 +6,7 @@ use problem::ProblemFault;
 
 // Writes the line `found N` into the page from `at` on.
 pub fn write_found(page: &mut [u8], at: usize, tally: u64) -> Result<usize, PageFault>
-    ensures { Written page.old at (found_line tally) page.new result }
+    ensures { Printed page.old at (found_line tally) page.new result }
 {
     if at > page.len() || page.len() - at < 7 + decimal_len(tally) {
         return Err(PageFault::Short);
@@ -19,7 +18,7 @@ pub fn write_found(page: &mut [u8], at: usize, tally: u64) -> Result<usize, Page
 
 // Writes the line `refused N line L` into the page from `at` on.
 pub fn write_refused(page: &mut [u8], at: usize, fault: &ProblemFault) -> Result<usize, PageFault>
-    ensures { Written page.old at (refused_line fault.now) page.new result }
+    ensures { Printed page.old at (refused_line fault.now) page.new result }
 {
     let number = fault.cause.number() as u64;
     let line = fault.line as u64;

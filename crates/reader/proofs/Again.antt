@@ -1,5 +1,5 @@
 -- The end and a fault are read again where they were read.
-use Rattle.std.proofs.Common.{◌≡◌, ℕ, Bool, true, false, cond, eqb, List, [], ◌∷◌, Some, None, Ok, Err, Option, Result, sym, refl, ap, ◌∙◌, subst, ⊎_elim, arith}
+use Rattle.std.proofs.Common.{◌≡◌, ℕ, Bool, eqb, List, [], ◌∷◌, Some, None, Option, Result, sym, refl, ap, ◌∙◌, subst, ⊎_elim}
 use Rattle.std.proofs.lemmas.Bool.{cases_Bool, cond-true, cond-false}
 use Rattle.rle.specs.declared.fault.ReadFault.{ReadFault}
 use Rattle.rle.specs.declared.mark.Mark.{Mark}
@@ -8,12 +8,10 @@ use Rattle.rle.specs.declared.phase.Phase.{Phase}
 use Rattle.rle.specs.declared.phase.Phase.TheVariants.{Opening, Body, Failed}
 use Rattle.rle.specs.Items.{Head, Part, remark, header, run, ending, Taken, line_over, heading, top_left, opening_item, body_item, laid_run, laid, marked_by, marked, mark_of, counted, item_start, read_item}
 use Rattle.rle.specs.Scans.{Scan, good, bad, and_then, past, space}
-use Rattle.reader.specs.declared.item.Located.{Located}
-use Rattle.reader.specs.declared.reader.Reader.{Reader}
 use Rattle.reader.specs.Again.{Final, Repeats}
-use Rattle.reader.specs.Calls.{LocatedShown, Stand, standing, shown_answer, answer_of, stand_after, Answered}
+use Rattle.reader.specs.Calls.{LocatedShown, Stand, standing, answer_of, stand_after}
 use Rattle.reader.specs.Left.{left}
-use Rattle.reader.specs.Shown.{Shown, over, told_part}
+use Rattle.reader.specs.Shown.{over, told_part}
 use Rattle.reader.proofs.Fronts.{never}
 
 -- what is passed once is passed

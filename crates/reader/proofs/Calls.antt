@@ -1,5 +1,5 @@
 -- An item or a cause that is read as its definition says is answered as it has to be.
-use Rattle.std.proofs.Common.{◌≡◌, ℕ, List, Ok, Err, Result, sym, refl, ap, ◌∙◌}
+use Rattle.std.proofs.Common.{◌≡◌, ℕ, List, Ok, Err, Result, refl, ap, ◌∙◌}
 use Rattle.rle.specs.declared.fault.ReadCause.{ReadCause}
 use Rattle.rle.specs.declared.fault.ReadFault.{ReadFault}
 use Rattle.rle.specs.declared.phase.Phase.{Phase}
@@ -12,7 +12,7 @@ use Rattle.reader.specs.declared.item.Taken.{Taken}
 use Rattle.reader.specs.declared.reader.Reader.{Reader}
 use Rattle.reader.specs.Calls.{Stand, LocatedShown, fault_at, answer_of, stand_after, item_here}
 use Rattle.reader.specs.Left.{left, outcome}
-use Rattle.reader.specs.Shown.{Shown, TakenShown, shown_item, shown_taken, told_taken, retold, Took}
+use Rattle.reader.specs.Shown.{TakenShown, shown_taken, told_taken, retold, Took}
 use Rattle.reader.proofs.Headings.{here_spot}
 
 from_start : (phase : Phase) (t : List ℕ) → item_here phase (item_start phase t) ≡ read_item phase t

@@ -1,9 +1,9 @@
 -- What a heading shows is what its definition tells.
-use Rattle.std.proofs.Common.{◌≡◌, ℕ, ◌-◌, ◌≤◌, List, [], ◌∷◌, length, drop, Some, None, Option, sym, refl, ap, ◌∙◌, arith, length-drop}
-use Rattle.lines.specs.Lines.{blank, first_line, trimmed}
+use Rattle.std.proofs.Common.{◌≡◌, ℕ, ◌-◌, List, length, Some, None, Option, sym, ap, ◌∙◌, arith, length-drop}
+use Rattle.lines.specs.Lines.{first_line, trimmed}
 use Rattle.rle.specs.declared.fault.ReadCause.{ReadCause}
 use Rattle.rle.specs.Items.{Head, before_width, before_height, before_rule, line_over, ruled, unruled, tailed, heading}
-use Rattle.rle.specs.Scans.{Scan, good, bad, and_then, this_byte, in_turn, past, size}
+use Rattle.rle.specs.Scans.{Scan, good, bad, and_then, this_byte, in_turn, size}
 use Rattle.rle.specs.Spots.{Spot, spot_at, spot_before}
 use Rattle.reader.specs.declared.reader.Reader.{Reader}
 use Rattle.reader.specs.Left.{left, size_after, whole_line}

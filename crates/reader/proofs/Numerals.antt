@@ -1,9 +1,9 @@
 -- How numbers are read digit by digit.
-use Rattle.std.proofs.Common.{◌≡◌, ℕ, zero, suc, ◌+◌, ◌-◌, ◌*◌, ◌^◌, ◌<◌, ◌≤◌, Bool, true, false, cond, ◌&&◌, leb, List, [], ◌∷◌, drop, Some, None, Option, sym, refl, ap, ◌∙◌, ⊎_elim, pow-suc, zero-add, zero-mul, add-one, arith}
+use Rattle.std.proofs.Common.{◌≡◌, ℕ, zero, suc, ◌+◌, ◌-◌, ◌*◌, ◌^◌, ◌<◌, ◌≤◌, true, false, ◌&&◌, leb, List, [], ◌∷◌, drop, Some, None, sym, refl, ap, ◌∙◌, ⊎_elim, pow-suc, zero-add, zero-mul, add-one, arith}
 use native.Mathlib.Nat.{pow-le-pow_right}
 use Rattle.std.proofs.lemmas.Bool.{cond-true, cond-false, le-leb, lt-leb, and_from, false≢true, cases_Bool, and_parts, leb-true}
 use Rattle.rle.specs.declared.fault.ReadCause.TheVariants.{Byte, Ended, Size}
-use Rattle.rle.specs.Scans.{Scan, good, bad, and_then, digit, digits_on, numeral, size, judged}
+use Rattle.rle.specs.Scans.{good, bad, digit, digits_on, numeral, judged}
 use Rattle.reader.specs.Left.{first_of, digit_first}
 use Rattle.reader.proofs.Fronts.{first_some, first_none}
 

@@ -1,11 +1,11 @@
 -- How reading one part after another follows the definitions.
-use Rattle.std.proofs.Common.{◌≡◌, ℕ, ◌+◌, ◌<◌, ◌≤◌, Bool, true, false, List, [], ◌∷◌, length, get_or, drop, IsErrAnd, Ok, Err, Result, sym, refl, ap, ◌∙◌}
+use Rattle.std.proofs.Common.{◌≡◌, ℕ, ◌+◌, ◌<◌, ◌≤◌, false, List, length, get_or, drop, IsErrAnd, Ok, Err, Result, sym, refl, ap, ◌∙◌}
 use Rattle.std.proofs.lemmas.List.{at_drop_more, at_drop_all}
 use Rattle.rle.specs.declared.fault.ReadCause.{ReadCause}
 use Rattle.rle.specs.declared.phase.Step.{Step}
 use Rattle.rle.specs.Scans.{Scan, good, bad, and_then, this_byte, gap, in_turn}
 use Rattle.reader.specs.declared.reader.Reader.{Reader}
-use Rattle.reader.specs.Left.{left, outcome, Scanned}
+use Rattle.reader.specs.Left.{left, Scanned}
 
 -- where a part is at fault, so is the whole
 pub broken : {A B : Type 0} (view : A → B) (scan : List ℕ → Scan B) (old new : Reader) (r : Result A ReadCause) (cause : ReadCause) → IsErrAnd r (λ y. y ≡ cause) → new.text.now ≡ old.text.now → bad cause (left new) ≡ scan (left old) → Scanned view scan old new r

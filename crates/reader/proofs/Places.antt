@@ -1,5 +1,5 @@
 -- Lines and columns go on from byte to byte, and never pass the number of bytes.
-use Rattle.std.proofs.Common.{◌≡◌, ℕ, suc, ◌+◌, ◌<◌, ◌≤◌, true, false, cond, eqb, List, [], ◌∷◌, ◌++◌, length, get_or, take, drop, sym, refl, ap, ◌∙◌, ⊎_elim, add-zero, arith, length-take}
+use Rattle.std.proofs.Common.{◌≡◌, ℕ, suc, ◌+◌, ◌<◌, ◌≤◌, eqb, List, [], ◌∷◌, ◌++◌, length, get_or, take, drop, sym, refl, ap, ◌∙◌, ⊎_elim, add-zero, arith, length-take}
 use Rattle.std.proofs.lemmas.List.{take_more, take-take, drop-take, take-append-drop, length-take-le}
 use Rattle.lines.specs.Lines.{line_length, first_line}
 use Rattle.lines.proofs.Ends.{line_within}

@@ -1,7 +1,7 @@
 -- Runs and the end: what reading an item of the body shows, and that the forms of bodies are read.
-use Rattle.std.proofs.Common.{◌≡◌, ℕ, ◌<◌, Bool, true, false, cond, eqb, ◌⊎◌, List, [], ◌∷◌, ◌++◌, length, Some, None, decimal, Option, sym, refl, ap, ◌∙◌, subst, inl, inr, ⊎_elim, arith}
+use Rattle.std.proofs.Common.{◌≡◌, ℕ, ◌<◌, Bool, true, false, eqb, List, [], ◌∷◌, ◌++◌, length, Some, None, decimal, Option, sym, refl, ap, ◌∙◌, subst, inl, inr, ⊎_elim, arith}
 use Rattle.std.proofs.lemmas.Fmt.{decimal_nonempty}
-use Rattle.std.proofs.lemmas.List.{append_assoc, append-nil}
+use Rattle.std.proofs.lemmas.List.{append-nil}
 use Rattle.std.proofs.lemmas.Bool.{cases_Bool, cond-true, cond-false, eqb-true}
 use Rattle.std.proofs.lemmas.Bool.Decides.{nat_tests}
 use Rattle.rle.specs.declared.fault.ReadCause.{ReadCause}
@@ -10,10 +10,10 @@ use Rattle.rle.specs.declared.mark.Mark.{Mark}
 use Rattle.rle.specs.declared.mark.Mark.TheVariants.{Off, On, NextRow}
 use Rattle.rle.specs.declared.phase.Cursor.{Cursor}
 use Rattle.rle.specs.declared.phase.Phase.TheVariants.{Body}
-use Rattle.rle.specs.Forms.{Each, Numeral, CountForm, BodyForm}
+use Rattle.rle.specs.Forms.{Each, Numeral, CountForm}
 use Rattle.rle.specs.Items.{Taken, run, ending, mark_of, laid, laid_run, marked_by, marked, counted, body_item}
 use Rattle.rle.specs.Runs.{letter_of, column_after, row_after, fitting}
-use Rattle.rle.specs.Scans.{Scan, good, bad, and_then, past, space, digit, numeral}
+use Rattle.rle.specs.Scans.{Scan, good, bad, and_then, space, digit, numeral}
 use Rattle.rle.proofs.Numerals.{see_numeral, numeral_reads, spelt}
 use Rattle.rle.proofs.Pasts.{never}
 use Rattle.rle.proofs.Seen.{Seen, Same, seen_as, begins_with}

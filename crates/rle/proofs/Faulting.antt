@@ -1,5 +1,5 @@
 -- A byte out of place is the first that no text of the grammar has there.
-use Rattle.std.proofs.Common.{◌≡◌, ℕ, ◌≤◌, Bool, true, false, ◌⊎◌, List, [], ◌∷◌, ◌++◌, Option, sym, refl, ap, ◌∙◌, subst, inl, inr, ⊎_elim}
+use Rattle.std.proofs.Common.{◌≡◌, ℕ, ◌≤◌, true, List, [], ◌∷◌, ◌++◌, Option, sym, refl, ap, ◌∙◌, subst, ⊎_elim}
 use Rattle.std.specs.List.{flat_map}
 use Rattle.std.proofs.lemmas.List.{append_assoc}
 use Rattle.std.proofs.lemmas.Bool.{cases_Bool}
@@ -11,13 +11,13 @@ use Rattle.rle.specs.declared.mark.Mark.TheVariants.{Off}
 use Rattle.rle.specs.declared.mark.Run.{Run}
 use Rattle.rle.specs.declared.phase.Cursor.{Cursor}
 use Rattle.rle.specs.declared.phase.Phase.{Phase}
-use Rattle.rle.specs.declared.phase.Phase.TheVariants.{Opening, Body, Failed}
-use Rattle.rle.specs.Forms.{Each, CountForm, BodyForm, HeadForm, RemarkForm, TextForm, BareForm, ended}
+use Rattle.rle.specs.declared.phase.Phase.TheVariants.{Opening, Body}
+use Rattle.rle.specs.Forms.{CountForm, BodyForm, HeadForm, RemarkForm, TextForm, BareForm, ended}
 use Rattle.rle.specs.Items.{Head, Part, Taken, remark, header, run, ending, Stops, here, later, top_left, body_item, opening_item, read_item}
 use Rattle.rle.specs.Laws.{FirstFault, FaultsFirst}
 use Rattle.rle.specs.Runs.{letter_of}
 use Rattle.rle.specs.Scans.{Scan, good, bad, past, space}
-use Rattle.rle.proofs.Bodies.{onward, fits, ran, body_reads, body_leaves, body_over, BodyView, over, ran_on, misplaced, faulty, body_view}
+use Rattle.rle.proofs.Bodies.{onward, fits, ran, body_reads, body_leaves, BodyView, over, ran_on, misplaced, faulty, body_view}
 use Rattle.rle.proofs.Openings.{took_remark, took_heading, OpenView, remarked, headed, open_view, remark_reads, head_reads}
 use Rattle.rle.proofs.Openings as opens
 use Rattle.rle.proofs.Pasts.{never, past_split, past_over, past_stays, past_stop}

@@ -1,18 +1,18 @@
 -- Headings: what reading one shows, and that the forms of headings are read.
-use Rattle.std.proofs.Common.{◌≡◌, ℕ, ◌≤◌, Bool, true, false, cond, eqb, leb, ◌⊎◌, List, [], ◌∷◌, ◌++◌, Some, None, Option, sym, refl, ap, ◌∙◌, subst, inl, inr, ⊎_elim, arith}
-use Rattle.std.proofs.lemmas.List.{append_assoc, append-nil}
+use Rattle.std.proofs.Common.{◌≡◌, ℕ, ◌≤◌, true, false, eqb, leb, ◌⊎◌, List, [], ◌∷◌, ◌++◌, Some, None, Option, sym, refl, ap, ◌∙◌, subst, inl, inr, ⊎_elim, arith}
+use Rattle.std.proofs.lemmas.List.{append_assoc}
 use Rattle.std.proofs.lemmas.Bool.{cases_Bool, cond-true, cond-false, eqb-true, leb-true, leb-false}
 use Rattle.std.proofs.lemmas.Bool.Decides.{nat_tests}
 use Rattle.lines.specs.Lines.{blank, first_line, trimmed}
-use Rattle.rle.specs.declared.fault.ReadCause.TheVariants.{TooLong, Byte, Size, Outside, Ended}
+use Rattle.rle.specs.declared.fault.ReadCause.TheVariants.{Byte, Size}
 use Rattle.rle.specs.Forms.{Each, on_line, Spells, Numeral, RuleForm, HeadForm}
 use Rattle.rle.specs.Items.{Head, before_width, before_height, before_rule, line_over, ruled, unruled, tailed, heading}
 use Rattle.rle.specs.Scans.{Scan, good, bad, and_then, past, digit, in_turn, size, judged}
 use Rattle.rle.proofs.Lines.{first_of, over_of, line_view, trimmed_split, trimmed_over, trimmed_twice, each_front, each_both, blanks_on_line, solid_line, solid_front}
 use Rattle.rle.proofs.Numerals.{NoDigit, numeral_solid, one_numeral, see_size, size_reads, size_small}
 use Rattle.rle.proofs.Pasts.{never, past_split, past_over, past_stop, past_first, past_end}
-use Rattle.rle.proofs.Seen.{Seen, Same, Both, seen_then, seen_as, begins_with}
-use Rattle.rle.proofs.Turns.{Spelled, Solid, plain, spells_plain, see_turn, turn_reads, turn_past}
+use Rattle.rle.proofs.Seen.{Seen, Both, seen_then, seen_as, begins_with}
+use Rattle.rle.proofs.Turns.{Spelled, plain, spells_plain, see_turn, turn_reads, turn_past}
 
 -- two headings of one size
 abbrev pub Alike : Head → Head → Type 0

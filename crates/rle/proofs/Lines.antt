@@ -1,11 +1,10 @@
 -- Lines: where they end, and what is left of one without the blanks at its end.
-use Rattle.std.proofs.Common.{◌≡◌, ℕ, suc, Bool, true, false, cond, not, eqb, ◌⊎◌, List, [], ◌∷◌, ◌++◌, length, take, drop, sym, refl, ap, ◌∙◌, subst, inl, inr, ⊎_elim, arith}
-use Rattle.std.proofs.lemmas.List.{append-nil, take-append-drop}
+use Rattle.std.proofs.Common.{◌≡◌, ℕ, suc, Bool, true, false, eqb, ◌⊎◌, List, [], ◌∷◌, ◌++◌, length, take, drop, sym, refl, ap, ◌∙◌, subst, inl, inr, ⊎_elim}
 use Rattle.std.proofs.lemmas.Bool.{cases_Bool, cond-true, cond-false, eqb-true, not_from_false, not-true}
 use Rattle.lines.specs.Lines.{blank, line_length, first_line, kept_before, trimmed}
-use Rattle.rle.specs.declared.fault.ReadCause.TheVariants.{Byte, Ended}
+use Rattle.rle.specs.declared.fault.ReadCause.TheVariants.{Ended}
 use Rattle.rle.specs.Forms.{Each, on_line}
-use Rattle.rle.specs.Scans.{Scan, good, bad, this_byte, past}
+use Rattle.rle.specs.Scans.{good, bad, this_byte, past}
 use Rattle.rle.specs.Items.{line_over}
 use Rattle.rle.proofs.Pasts.{never, past_first, past_stop}
 

@@ -1,5 +1,5 @@
 -- Remarks and the heading: what reading an item before the body shows, and that their forms are read.
-use Rattle.std.proofs.Common.{◌≡◌, ℕ, ◌≤◌, Bool, true, false, cond, eqb, ◌⊎◌, List, [], ◌∷◌, ◌++◌, Option, sym, refl, ap, ◌∙◌, subst, inl, inr, ⊎_elim}
+use Rattle.std.proofs.Common.{◌≡◌, ℕ, ◌≤◌, true, false, eqb, ◌⊎◌, List, [], ◌∷◌, ◌++◌, Option, sym, refl, ap, ◌∙◌, subst, inl, inr, ⊎_elim}
 use Rattle.std.proofs.lemmas.List.{append_assoc}
 use Rattle.std.proofs.lemmas.Bool.{cases_Bool, cond-true, cond-false, eqb-true}
 use Rattle.lines.specs.Lines.{first_line}
@@ -9,7 +9,7 @@ use Rattle.rle.specs.declared.phase.Phase.TheVariants.{Opening, Body}
 use Rattle.rle.specs.Forms.{Each, on_line, HeadForm, RemarkForm}
 use Rattle.rle.specs.Items.{Head, Taken, remark, header, top_left, line_over, heading, remark_item, heading_item, opening_item}
 use Rattle.rle.specs.Scans.{Scan, good, bad, and_then}
-use Rattle.rle.proofs.Headings.{Alike, Headed, HeadRead, see_heading, heading_reads, heading_small}
+use Rattle.rle.proofs.Headings.{Alike, Headed, see_heading, heading_reads, heading_small}
 use Rattle.rle.proofs.Lines.{first_of, over_of, line_view, first_cons}
 use Rattle.rle.proofs.Pasts.{never}
 use Rattle.rle.proofs.Seen.{Seen, begins_with}

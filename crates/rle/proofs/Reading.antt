@@ -1,5 +1,5 @@
 -- Which texts are read to their end: those of the grammar, and they give their parts.
-use Rattle.std.proofs.Common.{◌≡◌, ℕ, ◌≤◌, Bool, true, false, ◌⊎◌, List, [], ◌∷◌, ◌++◌, Option, sym, refl, ap, ◌∙◌, subst, inl, inr, ⊎_elim}
+use Rattle.std.proofs.Common.{◌≡◌, ℕ, ◌≤◌, true, ◌⊎◌, List, [], ◌∷◌, ◌++◌, Option, sym, refl, ap, ◌∙◌, subst, inl, inr, ⊎_elim}
 use Rattle.std.specs.List.{flat_map}
 use Rattle.std.proofs.lemmas.List.{append_assoc}
 use Rattle.lines.specs.Lines.{first_line}
@@ -7,12 +7,12 @@ use Rattle.rle.specs.declared.mark.Mark.{Mark}
 use Rattle.rle.specs.declared.mark.Run.{Run}
 use Rattle.rle.specs.declared.phase.Cursor.{Cursor}
 use Rattle.rle.specs.declared.phase.Phase.{Phase}
-use Rattle.rle.specs.declared.phase.Phase.TheVariants.{Opening, Body, Failed}
-use Rattle.rle.specs.Forms.{Each, CountForm, BodyForm, HeadForm, RemarkForm, RemarkForms, TextForm, ended}
-use Rattle.rle.specs.Items.{Head, Part, Taken, remark, header, run, ending, Finishes, ends, goes, items_of, run_items, top_left, body_item, opening_item, read_item}
+use Rattle.rle.specs.declared.phase.Phase.TheVariants.{Opening, Body}
+use Rattle.rle.specs.Forms.{Each, CountForm, BodyForm, HeadForm, RemarkForm, RemarkForms, ended}
+use Rattle.rle.specs.Items.{Head, Part, Taken, remark, header, run, ending, Finishes, ends, goes, run_items, top_left, body_item, opening_item, read_item}
 use Rattle.rle.specs.Laws.{Readable, Given, ReadsEvery, ReadsOnly}
 use Rattle.rle.specs.Runs.{Inside, letter_of}
-use Rattle.rle.specs.Scans.{Scan, good, bad, past, space}
+use Rattle.rle.specs.Scans.{Scan, good, past, space}
 use Rattle.rle.proofs.Bodies.{onward, fits, ran, run_reads, body_reads, BodyView, over, ran_on, misplaced, faulty, body_view}
 use Rattle.rle.proofs.Openings.{took_remark, took_heading, OpenView, remarked, headed, open_view, remark_reads, head_reads}
 use Rattle.rle.proofs.Openings as opens

@@ -1,12 +1,12 @@
 -- Bytes that come in turn: what reading them shows, and that their spellings are read.
-use Rattle.std.proofs.Common.{◌≡◌, ℕ, Bool, true, false, cond, eqb, List, [], ◌∷◌, ◌++◌, sym, refl, ap, ◌∙◌, subst}
-use Rattle.std.proofs.lemmas.List.{append_assoc, append-nil}
+use Rattle.std.proofs.Common.{◌≡◌, ℕ, Bool, true, false, eqb, List, [], ◌∷◌, ◌++◌, sym, refl, ap, ◌∙◌, subst}
+use Rattle.std.proofs.lemmas.List.{append_assoc}
 use Rattle.std.proofs.lemmas.Bool.{cond-true, cond-false, eq-eqb, eqb-true}
 use Rattle.lines.specs.Lines.{blank}
 use Rattle.rle.specs.declared.fault.ReadCause.TheVariants.{TooLong, Byte, Size, Outside, Ended}
 use Rattle.rle.specs.declared.phase.Step.{Step}
-use Rattle.rle.specs.Forms.{Each, Gap, Spells}
-use Rattle.rle.specs.Scans.{Scan, good, bad, and_then, this_byte, past, gap, in_turn}
+use Rattle.rle.specs.Forms.{Gap, Spells}
+use Rattle.rle.specs.Scans.{Scan, good, bad, and_then, past, gap, in_turn}
 use Rattle.rle.proofs.Pasts.{never, gap_split, gap_stays, past_over, past_stop, past_past}
 use Rattle.rle.proofs.Seen.{Seen, Same}
 

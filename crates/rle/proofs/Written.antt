@@ -1,9 +1,9 @@
 -- The text of a pattern is of the grammar, and so reads as that pattern.
-use Rattle.std.proofs.Common.{◌≡◌, ℕ, zero, suc, pred, ◌+◌, ◌-◌, ◌*◌, ◌^◌, ◌<◌, ◌≤◌, Bool, true, false, cond, not, ◌&&◌, ◌||◌, eqb, leb, ◌⊎◌, List, [], ◌∷◌, ◌++◌, length, take, Some, codes, decimal, sym, refl, ap, ◌∙◌, subst, inl, inr, ⊎_elim, mul-le-mul, arith}
+use Rattle.std.proofs.Common.{◌≡◌, ℕ, zero, suc, pred, ◌+◌, ◌*◌, ◌≤◌, Bool, true, false, not, eqb, leb, List, [], ◌∷◌, ◌++◌, length, take, Some, codes, decimal, sym, refl, ap, ◌∙◌, inl, inr, ⊎_elim, mul-le-mul, arith}
 use Rattle.std.specs.List.{range_with_len, flat_map}
 use Rattle.std.proofs.lemmas.Fmt.{length-decimal-le, length-decimal-le_succ}
 use Rattle.std.proofs.lemmas.List.{append_assoc, append-nil, length-append, length-take}
-use Rattle.std.proofs.lemmas.Bool.{cases_Bool, cases_eq, cond-true, cond-false, cond_both, eq-eqb, ne_eqb, leb-true}
+use Rattle.std.proofs.lemmas.Bool.{cases_eq, cond-true, cond-false, cond_both, eq-eqb, ne_eqb, leb-true}
 use Rattle.std.proofs.lemmas.Bool.Decides.{nat_tests}
 use Rattle.rules.specs.Answers.{holds}
 use Rattle.rules.specs.Forms.{digit_in, digits_below, written}
@@ -11,10 +11,8 @@ use Rattle.lines.specs.Lines.{blank, kept_before, trimmed}
 use Rattle.rle.specs.declared.mark.Mark.{Mark}
 use Rattle.rle.specs.declared.mark.Mark.TheVariants.{Off, On, NextRow}
 use Rattle.rle.specs.declared.mark.Run.{Run}
-use Rattle.rle.specs.Back.{ReadsAs, RoundTrip}
-use Rattle.rle.specs.Forms.{Each, on_line, Spells, Numeral, RuleForm, HeadForm, CountForm, BodyForm}
-use Rattle.rle.specs.Items.{before_width, before_height, before_rule}
-use Rattle.rle.specs.Laws.{Readable}
+use Rattle.rle.specs.Back.{RoundTrip}
+use Rattle.rle.specs.Forms.{Each, on_line, HeadForm, CountForm, BodyForm}
 use Rattle.rle.specs.Marks.{cell_mark, step_down, marks_from, pattern_marks, same_mark, join_mark, grouped}
 use Rattle.rle.specs.Runs.{letter_of}
 use Rattle.rle.specs.Scans.{past, space}

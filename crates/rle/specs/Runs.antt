@@ -1,5 +1,5 @@
 -- Where runs lie: the letters of marks, and the columns and rows that a run goes on to.
-use Rattle.std.specs.Prelude.{◌≡◌, ℕ, ◌+◌, ◌<◌, ◌≤◌, Bool, true, false, cond, ◌&&◌, ◌||◌, List, [], ◌∷◌, ◌==◌, nat_le, nat_lt}
+use Rattle.std.specs.Prelude.{◌≡◌, ℕ, ◌+◌, Bool, true, false, ◌&&◌, ◌||◌, List, [], ◌∷◌, ◌==◌, nat_le, nat_lt}
 use Rattle.rle.specs.declared.mark.Mark.{Mark}
 use Rattle.rle.specs.declared.mark.Mark.TheVariants.{Off, On, NextRow}
 use Rattle.rle.specs.declared.mark.Run.{Run}

@@ -1,11 +1,10 @@
 -- The worked examples, by computing every instance.
-use Rattle.std.proofs.Common.{◌≡◌, ℕ, zero, suc, ◌+◌, ◌<◌, Bool, true, false, not, ◌&&◌, List, [], ◌∷◌, length, ℤ, sym, refl, ◌∙◌, inl, inr, arith, lit<}
+use Rattle.std.proofs.Common.{◌≡◌, ℕ, zero, suc, ◌+◌, ◌<◌, Bool, true, false, not, ◌&&◌, List, [], ◌∷◌, sym, refl, inl, inr, arith, lit<}
 use Rattle.std.proofs.lemmas.Bool.{and_parts, both_ways, cases_order}
-use Rattle.frames.specs.Frames.{cells}
 use Rattle.rules.specs.declared.rule.Rule.{Rule}
 use Rattle.rules.specs.Answers.{answer}
-use Rattle.rolls.specs.Examples.{RollsWorked, plainly, around_torus, two_by_two, one_cell, leaping_cell, down_right, up_left, life, crowded, barren, glider, O}
-use Rattle.rolls.specs.Rolls.{Surface, Keeps, InstanceHolds, value, total, around, successor, ninth}
+use Rattle.rolls.specs.Examples.{RollsWorked, plainly, around_torus, two_by_two, one_cell, down_right, life, crowded, glider, O}
+use Rattle.rolls.specs.Rolls.{Surface, InstanceHolds, value, total, around, successor, ninth}
 
 -- whether a test passes at each number below n
 all_below : ℕ → (ℕ → Bool) → Bool

@@ -1,5 +1,5 @@
 -- Worked examples of the roll.
-use Rattle.std.specs.Prelude.{◌≡◌, ℕ, ◌*◌, ◌≤◌, Bool, true, false, List, [], ◌∷◌, ◌++◌, replicate, ℤ, pos, negsuc, ◌≤ℤ◌, refl}
+use Rattle.std.specs.Prelude.{ℕ, ◌*◌, ◌≤◌, Bool, true, false, List, [], ◌∷◌, ◌++◌, ℤ, pos, negsuc, ◌≤ℤ◌, refl}
 use Rattle.std.proofs.Common.{lit<, lit≤}
 use Rattle.frames.specs.declared.frame.Frame.{Frame}
 use Rattle.rules.specs.declared.rule.Rule.{Rule}

@@ -1,5 +1,5 @@
 -- One decision more, after as many as are kept.
-use Rattle.std.proofs.Common.{◌≡◌, ℕ, ◌<◌, ◌≤◌, List, [], ◌∷◌, ◌++◌, length, get_or, vec_items, vec_len, Vec, arith}
+use Rattle.std.proofs.Common.{◌≡◌, ℕ, ◌<◌, [], ◌∷◌, ◌++◌, length, get_or, vec_items, vec_len, Vec, arith}
 use Rattle.std.specs.declared.alloc.Global.{Global}
 use Rattle.classes.proofs.Places.{each_more}
 use Rattle.search.specs.declared.standing.Decision.{Decision}

@@ -1,5 +1,5 @@
 -- What setting classes leaves as it was.
-use Rattle.std.specs.Prelude.{◌≡◌, ℕ, ◌≤◌, vec_items, vec_len}
+use Rattle.std.specs.Prelude.{◌≡◌, ◌≤◌, vec_len}
 use Rattle.settling.specs.declared.board.Board.{Board}
 
 -- the same system and table, and the trail no shorter

@@ -1,10 +1,10 @@
 -- Systems with the same instances come to the same.
-use Rattle.std.proofs.Common.{◌≡◌, ℕ, ◌+◌, ◌<◌, Bool, true, false, cond, eqb, List, [], ◌∷◌, ◌++◌, length, get_or, sym, refl, ap, ◌∙◌, subst, ap₂, inl, inr, arith}
+use Rattle.std.proofs.Common.{◌≡◌, ℕ, ◌+◌, ◌<◌, Bool, false, cond, eqb, List, [], ◌∷◌, ◌++◌, length, get_or, sym, refl, ap, ◌∙◌, subst, ap₂, inl, inr, arith}
 use Rattle.std.proofs.lemmas.Bool.{cases_eq, eq-eqb, ne_eqb, cond-true, cond-false}
 use Rattle.codes.specs.declared.value.Value.{Value}
 use Rattle.codes.specs.Codes.{Parts, code}
 use Rattle.systems.specs.declared.instance.Instance.{Instance}
-use Rattle.systems.specs.Systems.{In, here, there, Sys, at, sum_of, on_one, unknown_one, descriptor_of, code_for, Mentions, as_centre, as_successor, as_neighbour, Below, whole, on_in, Holds, Sol, Proper}
+use Rattle.systems.specs.Systems.{In, here, there, Sys, at, sum_of, on_one, unknown_one, code_for, Mentions, as_centre, as_successor, as_neighbour, Holds, Sol, Proper}
 use Rattle.systems.specs.Settling.{Closed, Least, Dead}
 use Rattle.systems.proofs.Gathered.{in_left, in_right, in_either}
 use Rattle.systems.specs.Alike.{Rearranged, SameLooks, Covers, Alike, AlikeLaws}

@@ -1,5 +1,5 @@
 -- Which instances a space has.
-use Rattle.std.proofs.Common.{◌≡◌, ℕ, zero, suc, ◌+◌, ◌<◌, ◌≤◌, ◌⊎◌, List, [], ◌∷◌, ◌++◌, map, sym, refl, ap, ◌∙◌, inl, inr, add-zero, arith}
+use Rattle.std.proofs.Common.{◌≡◌, ℕ, zero, suc, ◌+◌, ◌<◌, ◌≤◌, ◌⊎◌, List, [], ◌∷◌, ◌++◌, inl, inr, add-zero, arith}
 use Rattle.std.specs.List.{range_with_len, flat_map}
 use Rattle.rolls.specs.Rolls.{Surface, ninth}
 use Rattle.classes.specs.Numbers.{Numbers}

@@ -1,17 +1,17 @@
 -- Looking at one instance after another is a sequence of forcing steps, and it ends.
-use Rattle.std.proofs.Common.{◌≡◌, ℕ, zero, suc, ◌+◌, ◌*◌, ◌/◌, ◌%◌, ◌<◌, ◌≤◌, Bool, true, false, cond, eqb, ltb, ◌⊎◌, List, [], ◌∷◌, length, get_or, set, Some, None, Option, sym, refl, ap, ◌∙◌, subst, inl, inr, arith, length-set}
+use Rattle.std.proofs.Common.{◌≡◌, ℕ, zero, suc, ◌+◌, ◌*◌, ◌/◌, ◌%◌, ◌<◌, ◌≤◌, Bool, true, false, cond, eqb, ◌⊎◌, List, [], ◌∷◌, length, Some, None, Option, sym, refl, ap, ◌∙◌, inl, inr, arith, length-set}
 use native.Mathlib.Nat.{div-div-eq-div-mul}
 use Rattle.std.proofs.lemmas.List.{get_or-set_same}
-use Rattle.std.proofs.lemmas.Bool.{cases_Bool, cases_eq, both_ways, eqb-true, eqb-false, eq-eqb, ltb-true, cond-true, cond-false}
+use Rattle.std.proofs.lemmas.Bool.{cases_Bool, both_ways, eqb-true, eqb-false, eq-eqb, ltb-true}
 use Rattle.rules.specs.Answers.{holds}
 use Rattle.codes.specs.declared.value.Value.{Value}
 use Rattle.codes.specs.declared.value.Value.TheVariants.{Off, On, Unknown}
-use Rattle.codes.specs.Codes.{Parts, Pair, fitting, is_empty, is_unknown, says_centre, says_successor, says_neighbours, code}
+use Rattle.codes.specs.Codes.{Parts, code}
 use Rattle.codes.specs.Laws.{known, centre_bit, successor_bit, neighbour_bit}
 use Rattle.codes.proofs.Bits.{lowest, few, centre_tells, successor_tells, neighbours_tell}
 use Rattle.systems.specs.declared.instance.Instance.{Instance}
 use Rattle.systems.specs.Systems.{In, here, there, Sys, at, sum_of, unknown_one, unknown_among, descriptor_of, code_for, AllSay, Forces, in_centre, in_successor, in_neighbour, Mentions, as_centre, as_successor, as_neighbour, Below, unknowns, Proper}
-use Rattle.systems.specs.Settling.{Closed, Step, Steps, stop, more, Contra, torn_class, no_fit, Settles, Meets, set_if, set_one, set_each, said_by, said_centre, said_successor, said_neighbours, set_by, unless_one, examined, first_loud, and_then, settle_at, settle, unless_torn, settled}
+use Rattle.systems.specs.Settling.{Step, Steps, stop, more, torn_class, no_fit, Settles, Meets, set_if, set_one, set_each, said_by, said_centre, said_successor, said_neighbours, set_by, first_loud, and_then, settle_at, settle, unless_torn, settled}
 use Rattle.systems.proofs.Base.{never, known_unknown, view, unknown_value}
 use Rattle.systems.proofs.Settle.{set_adds, forces_up, steps_add, steps_long, steps_then, unknowns_set}
 

@@ -1,7 +1,7 @@
 -- What settling comes to has one proof at most, so that a type can carry it, truncated, and give it back whole.
-use Rattle.std.proofs.Common.{◌≡◌, ℕ, Bool, true, false, List, length, sym, refl, ap}
+use Rattle.std.proofs.Common.{ℕ, false, List, length, refl}
 use mathlib.Core.Bool.{Bool-set}
-use mathlib.Core.HLevel.{Discrete, hedberg, Π_prop, ⊥_prop, ¬_prop}
+use mathlib.Core.HLevel.{Discrete, hedberg, Π_prop, ¬_prop}
 use mathlib.Core.Logic.{∥∥₁_elim}
 use native.Mathlib.Decide.{ℕ_discrete}
 use Rattle.codes.specs.declared.value.Value.{Value}

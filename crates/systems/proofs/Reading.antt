@@ -1,5 +1,5 @@
 -- How the code of an instance is read from a table, and what it says by masks.
-use Rattle.std.proofs.Common.{◌≡◌, ℕ, zero, suc, ◌+◌, ◌*◌, ◌<◌, ◌≤◌, Bool, true, false, cond, not, ◌&&◌, eqb, List, [], ◌∷◌, length, get_or, take, sym, refl, ap, ◌∙◌, subst, inl, inr, arith}
+use Rattle.std.proofs.Common.{◌≡◌, ℕ, zero, suc, ◌+◌, ◌*◌, ◌<◌, ◌≤◌, Bool, true, false, not, ◌&&◌, eqb, List, [], ◌∷◌, length, get_or, take, refl, ap, ◌∙◌, inl, inr, arith}
 use lib.Bits.{bit_and}
 use Rattle.std.proofs.lemmas.List.{take_all}
 use Rattle.std.proofs.lemmas.Bool.{and_parts, eqb-true, eq-eqb, ne_eqb, cases_order, cond-true, cond-false}
@@ -12,10 +12,9 @@ use Rattle.codes.specs.Values.{number_of}
 use Rattle.codes.proofs.Bits.{few}
 use Rattle.codes.proofs.Tables.{code_placed}
 use Rattle.systems.specs.declared.instance.Instance.{Instance}
-use Rattle.systems.specs.Systems.{at, sum_of, on_one, unknown_one, on_among, unknown_among, weight_of, descriptor_of, code_for}
+use Rattle.systems.specs.Systems.{sum_of, on_one, unknown_one, on_among, unknown_among, weight_of, descriptor_of, code_for}
 use Rattle.systems.specs.Settling.{said_centre, said_successor, said_neighbours, masked}
 use Rattle.systems.specs.Trails.{Held, hold, hold_one}
-use Rattle.systems.proofs.Base.{never}
 
 -- ---- sums over the first of a list
 pub sum_more : (g : ℕ → ℕ) (xs : List ℕ) (i : ℕ) → i < length xs → sum_of g (take (suc i) xs) ≡ sum_of g (take i xs) + g (get_or xs i 0)

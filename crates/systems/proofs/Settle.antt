@@ -1,5 +1,5 @@
 -- Settling: steps stay below closed values, so that its sequence does not matter.
-use Rattle.std.proofs.Common.{◌≡◌, ℕ, zero, suc, ◌+◌, ◌<◌, ◌≤◌, Bool, true, false, cond, ltb, ◌⊎◌, List, [], ◌∷◌, map, length, get_or, set, sym, refl, ap, ◌∙◌, subst, inl, inr, arith, length-set}
+use Rattle.std.proofs.Common.{◌≡◌, ℕ, zero, suc, ◌+◌, ◌<◌, ◌≤◌, Bool, true, false, ◌⊎◌, List, [], ◌∷◌, length, set, sym, refl, ap, ◌∙◌, inl, inr, arith, length-set}
 use Rattle.std.proofs.lemmas.List.{ext_get_or, get_or-set_same}
 use Rattle.std.proofs.lemmas.Bool.{cases_Bool, both_ways, eqb-true, eq-eqb, lt-ltb}
 use Rattle.rules.specs.Answers.{holds}
@@ -8,13 +8,13 @@ use Rattle.codes.specs.declared.value.Value.TheVariants.{Off, On, Unknown}
 use Rattle.codes.specs.Values.{agrees}
 use Rattle.codes.specs.Codes.{Parts, Pair, fitting, is_empty, is_unknown, is, says_centre, says_successor, says_neighbours, edge, code}
 use Rattle.codes.specs.Laws.{known, KnowsMore, centre_bit, successor_bit, neighbour_bit}
-use Rattle.codes.proofs.Pairs.{Fit, every_fit, fit_every, empty_fit, fit_empty}
-use Rattle.codes.proofs.Bits.{contradicted, contradiction, centre_tells, successor_tells, neighbours_tell}
+use Rattle.codes.proofs.Pairs.{Fit, every_fit, fit_every, fit_empty}
+use Rattle.codes.proofs.Bits.{contradicted, centre_tells, successor_tells, neighbours_tell}
 use Rattle.codes.proofs.Knowing.{fit_less, same_edge, stays_forced}
 use Rattle.systems.specs.declared.instance.Instance.{Instance}
-use Rattle.systems.specs.Systems.{In, here, there, Sys, at, sum_of, on_one, unknown_one, on_among, unknown_among, descriptor_of, code_for, AllSay, Forces, in_centre, in_successor, in_neighbour, Mentions, as_centre, as_successor, as_neighbour, Below, unknowns, whole, on_in, Holds, Sol, Proper}
+use Rattle.systems.specs.Systems.{In, here, there, Sys, at, sum_of, on_one, unknown_one, on_among, unknown_among, descriptor_of, code_for, AllSay, Forces, in_centre, in_successor, in_neighbour, Below, unknowns}
 use Rattle.systems.specs.Settling.{Closed, Step, Steps, stop, more, Contra, torn_class, no_fit, Settles, Meets, Least, Dead}
-use Rattle.systems.proofs.Base.{never, known_unknown, known_inj, view, same_bool}
+use Rattle.systems.proofs.Base.{never, known_unknown, view, same_bool}
 
 val_mono : (a c : Value) → ((b : Bool) → a ≡ known b → c ≡ known b) → (on_one a ≤ on_one c) × (on_one c + unknown_one c ≤ on_one a + unknown_one a)
 val_mono Unknown Off h = omega arith

@@ -1,7 +1,7 @@
 -- The laws of settling.
-use Rattle.std.proofs.Common.{◌≡◌, ℕ, Bool, ◌⊎◌, List, length, Some, None, Option, sym, refl, ap, ◌∙◌, subst, inl, inr}
+use Rattle.std.proofs.Common.{◌≡◌, ◌⊎◌, List, Some, None, Option, inl, inr}
 use Rattle.codes.specs.declared.value.Value.{Value}
-use Rattle.systems.specs.Systems.{Sys, Proper}
+use Rattle.systems.specs.Systems.{Sys}
 use Rattle.systems.specs.Settling.{Settles, Meets, settled}
 use Rattle.systems.specs.Laws.{SettlingLaws}
 use Rattle.systems.proofs.Settle.{settles_least, meets_dead, least_one, least_dead, least_then, dead_then}

@@ -1,18 +1,17 @@
 -- Solutions are closed values, and closed values that are all known are a solution.
-use Rattle.std.proofs.Common.{◌≡◌, ℕ, zero, suc, ◌+◌, ◌<◌, ◌≤◌, Bool, true, false, cond, ltb, List, [], ◌∷◌, map, length, get_or, sym, refl, ap, ◌∙◌, ap₂, inl, inr, arith}
+use Rattle.std.proofs.Common.{◌≡◌, ℕ, zero, suc, ◌+◌, ◌<◌, Bool, true, false, cond, ltb, List, [], ◌∷◌, map, length, get_or, sym, refl, ap, ◌∙◌, ap₂, inl, inr, arith}
 use lib.ListN.{length-map}
 use Rattle.std.proofs.lemmas.Bool.{cases_Bool, cond-false, le-ltb}
 use Rattle.codes.specs.declared.value.Value.{Value}
-use Rattle.codes.specs.declared.value.Value.TheVariants.{Off, On, Unknown}
 use Rattle.codes.specs.Values.{agrees}
 use Rattle.codes.specs.Codes.{Parts, Pair, fitting, is_empty, is_unknown, code}
 use Rattle.codes.specs.Laws.{known}
 use Rattle.codes.proofs.Pairs.{Fit, empty_fit}
 use Rattle.systems.specs.declared.instance.Instance.{Instance}
 use Rattle.systems.specs.Systems.{In, here, there, Sys, at, sum_of, on_one, unknown_one, on_among, unknown_among, descriptor_of, code_for, Mentions, as_centre, as_successor, as_neighbour, Below, whole, on_in, Holds, Sol, Proper}
-use Rattle.systems.specs.Settling.{Closed, Steps, Settles, Meets, Least}
+use Rattle.systems.specs.Settling.{Closed, Steps, Meets}
 use Rattle.systems.specs.Laws.{FillingLaws}
-use Rattle.systems.proofs.Base.{never, known_unknown, known_inj}
+use Rattle.systems.proofs.Base.{known_unknown}
 use Rattle.systems.proofs.Settle.{agreed, by_fit, not_one, steps_below, meets_dead, settles_least}
 
 on_known : (b : Bool) → on_one (known b) ≡ cond b 1 0

@@ -1,14 +1,12 @@
 -- The solutions of a space's system are the fillings that keep its ties and the rule.
-use Rattle.std.proofs.Common.{◌≡◌, ℕ, zero, suc, ◌+◌, ◌<◌, ◌≤◌, Bool, true, false, cond, ◌&&◌, ◌||◌, ltb, ◌⊎◌, List, [], ◌∷◌, ◌++◌, map, length, get_or, ℤ, ◌+ℤ◌, ◌-ℤ◌, Some, None, Option, sym, refl, ap, ◌∙◌, subst, ap₂, inl, inr, arith}
+use Rattle.std.proofs.Common.{◌≡◌, ℕ, zero, suc, ◌+◌, ◌<◌, ◌≤◌, Bool, true, false, cond, ◌&&◌, ◌||◌, ltb, ◌⊎◌, List, [], ◌∷◌, map, length, get_or, ℤ, ◌+ℤ◌, ◌-ℤ◌, Some, None, Option, sym, refl, ap, ◌∙◌, subst, ap₂, inl, inr, arith}
 use lib.ListN.{length-map}
-use Rattle.std.specs.List.{range_with_len}
 use Rattle.std.proofs.lemmas.List.{ext_get_or, get_or-map, get_or_append_left, get_or_push, get_or_past, get_or_default, length_push}
 use Rattle.std.proofs.lemmas.List.FromFn.{length-map-range_with_len, get_or-map-range_with_len}
-use Rattle.std.proofs.lemmas.Bool.{cases_eq, cases_lt, cases_Bool, both_ways, cond-true, cond_both, and_parts, and_from, or_parts, or_cases, or_left, or_right}
+use Rattle.std.proofs.lemmas.Bool.{cases_eq, cases_lt, cases_Bool, both_ways, cond-true, cond_both, and_parts, or_parts, or_cases}
 use Rattle.frames.specs.Frames.{cells, cell_number}
 use Rattle.rules.specs.declared.rule.Rule.{Rule}
 use Rattle.rules.specs.Answers.{answer}
-use Rattle.codes.specs.declared.value.Value.{Value}
 use Rattle.codes.specs.declared.value.Value.TheVariants.{Off, On, Unknown}
 use Rattle.codes.specs.Laws.{known}
 use Rattle.planes.specs.declared.neighbours.Offset.{Offset}
@@ -16,25 +14,25 @@ use Rattle.planes.specs.declared.place.Place.{Place}
 use Rattle.planes.specs.declared.tie.Tie.{Tie}
 use Rattle.planes.specs.declared.tie.Tie.TheVariants.{Free, Same}
 use Rattle.planes.specs.Ties.{Within}
-use Rattle.rolls.specs.Joined.{Joined, alone, tied}
+use Rattle.rolls.specs.Joined.{alone, tied}
 use Rattle.rolls.specs.Rolls.{Surface, around, ninth, Keeps, TieHolds, InstanceHolds, seen, value, total, successor}
 use Rattle.rolls.specs.Laws.{Orders}
 use Rattle.rolls.proofs.Chains.{joined_alike}
 use Rattle.classes.specs.declared.classes.Musts.{Musts}
 use Rattle.classes.specs.Asked.{free_among, torn_among, unasked, asks, must}
-use Rattle.classes.specs.Classed.{numbers_in, class_of, lowest_of, class_count, ClassesRight}
-use Rattle.classes.specs.Joins.{TiesInside, label_of}
-use Rattle.classes.specs.Needed.{musts_in, AskedOf, MustsRight}
+use Rattle.classes.specs.Classed.{numbers_in, class_of, lowest_of, class_count}
+use Rattle.classes.specs.Joins.{TiesInside}
+use Rattle.classes.specs.Needed.{musts_in, AskedOf}
 use Rattle.classes.specs.Numbers.{Numbers}
 use Rattle.classes.proofs.Classing.{classes_right}
 use Rattle.classes.proofs.Joining.{labels_right, some_cells}
 use Rattle.classes.proofs.Needing.{musts_right}
 use Rattle.systems.specs.declared.instance.Instance.{Instance}
-use Rattle.systems.specs.Systems.{In, here, there, Sys, at, sum_of, unknowns, unknown_one, whole, on_in, Holds, Sol, Proper, Mentions, as_centre, as_successor, as_neighbour}
-use Rattle.systems.specs.Spaces.{class_seen, class_look, class_next, instance_at, all_instances, first_value, start_of, classes_by_rank, system_of, spread, gather, SolutionsRight, SolutionsStand}
-use Rattle.systems.proofs.Base.{never, known_unknown, known_inj, in_map, map_in, in_get_d, get_d_in}
+use Rattle.systems.specs.Systems.{In, at, sum_of, unknowns, unknown_one, whole, on_in, Holds, Sol, Proper, Mentions, as_centre, as_successor, as_neighbour}
+use Rattle.systems.specs.Spaces.{class_seen, class_look, class_next, instance_at, all_instances, first_value, start_of, classes_by_rank, system_of, spread, gather, SolutionsStand}
+use Rattle.systems.proofs.Base.{never, known_unknown, known_inj, map_in, in_get_d, get_d_in}
 use Rattle.systems.proofs.Solutions.{sol_steps, sol_meets, filling_laws}
-use Rattle.systems.proofs.Gathered.{From, instance_in, in_instances}
+use Rattle.systems.proofs.Gathered.{instance_in, in_instances}
 
 -- ---- looks through classes
 spread_at : (g : List Bool) (n : ℕ) → get_or g n false ≡ false → (l : List ℕ) (c : ℕ) → get_or (map (λ x. get_or g x false) l) c false ≡ get_or g (get_or l c n) false

@@ -1,6 +1,6 @@
 -- Settling with a trail: what was set can be put back, and an instance that names no class set since is quiet still.
-use Rattle.std.proofs.Common.{◌≡◌, ℕ, zero, suc, ◌+◌, ◌<◌, ◌≤◌, Bool, true, false, ◌⊎◌, List, [], ◌∷◌, ◌++◌, length, get_or, set, sym, refl, ap, ◌∙◌, subst, ap₂, inl, inr, append_assoc, append-nil, arith, length-set}
-use Rattle.std.proofs.lemmas.List.{get_or-set_same, get_or-set_other, same_from_push, length_push, set-set, set-get_or}
+use Rattle.std.proofs.Common.{◌≡◌, ℕ, ◌<◌, Bool, true, false, ◌⊎◌, List, [], ◌∷◌, ◌++◌, length, set, sym, refl, ap, ◌∙◌, subst, inl, inr, append_assoc, append-nil, arith, length-set}
+use Rattle.std.proofs.lemmas.List.{same_from_push, length_push, set-set, set-get_or}
 use Rattle.std.proofs.lemmas.Bool.{cases_eq}
 use Rattle.codes.specs.declared.value.Value.{Value}
 use Rattle.codes.specs.declared.value.Value.TheVariants.{Off, On, Unknown}
@@ -9,7 +9,7 @@ use Rattle.systems.specs.declared.instance.Instance.{Instance}
 use Rattle.systems.specs.Systems.{In, here, there, Sys, at, code_for, Mentions, as_centre, as_successor, as_neighbour, Below, Proper}
 use Rattle.systems.specs.Settling.{Closed, Steps, set_if, set_one, set_each, set_by, said_centre, said_successor, said_neighbours}
 use Rattle.systems.specs.Trails.{Trailed, not_yet, one_more, Held, hold_if, hold, hold_one, hold_each, hold_by, Grows, QuietUnless, QuietBut, TrailLaws}
-use Rattle.systems.proofs.Base.{never, known_unknown}
+use Rattle.systems.proofs.Base.{known_unknown}
 use Rattle.systems.proofs.Settle.{at_set, set_adds}
 use Rattle.systems.proofs.Looking.{set_steps, loud_sets}
 use Rattle.systems.proofs.Alike.{code_same}

@@ -1,5 +1,5 @@
 -- Settling: sequences of forcing steps, and what they come to.
-use Rattle.std.specs.Prelude.{◌≡◌, ℕ, zero, suc, Bool, true, false, cond, not, List, [], ◌∷◌, length, set, Some, None, Option, ◌==◌, bit_and, slice_set}
+use Rattle.std.specs.Prelude.{◌≡◌, ℕ, zero, suc, Bool, true, false, cond, not, List, [], ◌∷◌, length, Some, None, Option, ◌==◌, bit_and, slice_set}
 use Rattle.codes.specs.declared.value.Value.{Value}
 use Rattle.codes.specs.declared.value.Value.TheVariants.{Off, On, Unknown}
 use Rattle.codes.specs.Laws.{known, centre_bit, successor_bit, neighbour_bit}

@@ -2,7 +2,7 @@
 use Rattle.std.specs.Prelude.{◌≡◌, ℕ, ◌+◌, ◌<◌, Bool, true, false, cond, List, [], ◌∷◌, length, slice_index_or}
 use Rattle.codes.specs.declared.value.Value.{Value}
 use Rattle.codes.specs.declared.value.Value.TheVariants.{Off, On, Unknown}
-use Rattle.codes.specs.Codes.{Parts, Pair, fitting, every, is_unknown, says_centre, says_successor, says_neighbours, code}
+use Rattle.codes.specs.Codes.{Parts, Pair, fitting, every, says_centre, says_successor, says_neighbours, code}
 use Rattle.codes.specs.Laws.{known}
 use Rattle.systems.specs.declared.instance.Instance.{Instance}
 

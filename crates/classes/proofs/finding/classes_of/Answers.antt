@@ -1,7 +1,7 @@
-use Rattle.std.proofs.Common.{◌≡◌, ℕ, ◌*◌, length, take, replicate, vec_items, vec_len, sym, ap, ◌∙◌, arith, rules}
+use Rattle.std.proofs.Common.{◌≡◌, ◌*◌, length, replicate, vec_items, vec_len, sym, ap, ◌∙◌, rules}
 use Rattle.std.proofs.lemmas.List.{take_at}
 use Rattle.frames.specs.Frames.{cells}
-use Rattle.classes.specs.Asked.{asked_after, free_among, unasked}
+use Rattle.classes.specs.Asked.{asked_after, unasked}
 use Rattle.classes.proofs.finding.classes_of.Goals as goal
 
 pub returns : goal.returns

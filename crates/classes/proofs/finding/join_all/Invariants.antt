@@ -1,4 +1,4 @@
-use Rattle.std.proofs.Common.{◌≡◌, ℕ, ◌/◌, ◌%◌, ◌<◌, length}
+use Rattle.std.proofs.Common.{◌≡◌, ℕ, ◌/◌, ◌%◌, ◌<◌}
 use Rattle.planes.specs.Ties.{Within}
 use Rattle.classes.specs.Labels.{Low, labels_after}
 use Rattle.classes.proofs.finding.join_all.Given as goal

@@ -1,4 +1,4 @@
-use Rattle.std.proofs.Common.{◌≡◌, length, sym, ap, ◌∙◌, arith, rules}
+use Rattle.std.proofs.Common.{◌≡◌, length, ap, ◌∙◌, arith}
 use Rattle.classes.specs.Numbers.{Numbers}
 use Rattle.classes.proofs.Numbered.{numbers_none, numbers_more, numbers_all}
 use Rattle.classes.proofs.finding.numbered.Goals as goal

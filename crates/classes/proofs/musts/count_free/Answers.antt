@@ -1,4 +1,4 @@
-use Rattle.std.proofs.Common.{◌≡◌, ◌+◌, refl, ap, arith, rules}
+use Rattle.std.proofs.Common.{◌+◌, ap, arith}
 use Rattle.classes.proofs.Asking.{free_more, free_all}
 use Rattle.classes.proofs.musts.count_free.Goals as goal
 

@@ -1,4 +1,4 @@
-use Rattle.std.proofs.Common.{◌≡◌, ℕ, ◌*◌, length, sym, refl, ap, ◌∙◌, arith, rules}
+use Rattle.std.proofs.Common.{◌≡◌, ℕ, ◌*◌, length, refl, ap, ◌∙◌, arith}
 use Rattle.frames.specs.Frames.{cells}
 use Rattle.classes.specs.Asked.{asked_after}
 use Rattle.classes.proofs.Asking.{asked_none, asked_more}

@@ -1,4 +1,4 @@
-use Rattle.std.proofs.Common.{◌≡◌, min, max, map, get_or, set, sym, ap, ◌∙◌, subst, arith, rules}
+use Rattle.std.proofs.Common.{◌≡◌, map, get_or, set, sym, ap, ◌∙◌, subst, rules}
 use Rattle.std.proofs.lemmas.List.Edits.{map_over_more}
 use Rattle.std.proofs.lemmas.List.{get_or_read}
 use Rattle.classes.specs.Labels.{renamed, united, Lowered}

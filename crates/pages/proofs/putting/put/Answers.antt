@@ -1,4 +1,4 @@
-use Rattle.std.proofs.Common.{refl, arith}
+use Rattle.std.proofs.Common.{arith}
 use Rattle.pages.proofs.Puts.{placed_copy}
 use Rattle.pages.proofs.putting.put.Goals as goal
 

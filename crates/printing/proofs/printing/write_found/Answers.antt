@@ -17,4 +17,5 @@ returns c =
     let p2 = c.put_number-after_tally.ensures.fits (omega arith) in
     let p3 = c.put.ensures.fits (omega arith) in
     let rest = placed_then c.put-after_word.new.page c.put_number-after_tally.new.page c.put.new.page n (10 ∷ []) c.put-after_word.result c.put_number-after_tally.result c.put.result (omega arith) p2 p3 in
-    (omega arith, placed_then c.args.page.now c.put-after_word.new.page c.put.new.page (codes "found ") (n ++ (10 ∷ [])) c.args.at c.put-after_word.result c.put.result (omega arith) p1 rest)
+    let all = placed_then c.args.page.now c.put-after_word.new.page c.put.new.page (codes "found ") (n ++ (10 ∷ [])) c.args.at c.put-after_word.result c.put.result (omega arith) p1 rest in
+    (all.0, omega arith, all.1)

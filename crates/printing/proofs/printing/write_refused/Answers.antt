@@ -1,7 +1,6 @@
 use Rattle.std.proofs.Common.{ℕ, ◌+◌, ◌<◌, List, [], ◌∷◌, ◌++◌, length, Ok, codes, decimal, refl, subst, arith}
-use Rattle.pages.specs.Pages.{Written}
 use Rattle.pages.proofs.Puts.{placed_then}
-use Rattle.printing.specs.Printed.{refused_text}
+use Rattle.printing.specs.Printed.{Printed, refused_text}
 use Rattle.printing.proofs.Lengths.{refused_length}
 use Rattle.printing.proofs.printing.write_refused.Goals as goal
 use Rattle.printing.proofs.printing.write_refused.Goals.{then-at-page-via-then-at-page, then-at-page-via-else-at-page+then-page-at}
@@ -34,4 +33,4 @@ returns c =
     let q3 = placed_then c.put_number-after_number.new.page c.put-after_key.new.page new (codes " line ") (l ++ (10 ∷ [])) c.put_number-after_number.result c.put-after_key.result end (omega arith) p3 q4 in
     let q2 = placed_then c.put-after_word.new.page c.put_number-after_number.new.page new n (codes " line " ++ (l ++ (10 ∷ []))) c.put-after_word.result c.put_number-after_number.result end (omega arith) p2 q3 in
     let q1 = placed_then page c.put-after_word.new.page new (codes "refused ") (n ++ (codes " line " ++ (l ++ (10 ∷ [])))) at c.put-after_word.result end (omega arith) p1 q2 in
-    subst (λ m. Written page at (refused_text m line) new (Ok end)) c.number-number.ensures (omega arith, q1)
+    subst (λ m. Printed page at (refused_text m line) new (Ok end)) c.number-number.ensures (q1.0, omega arith, q1.1)

@@ -1,4 +1,4 @@
-use Rattle.std.proofs.Common.{arith, rules}
+use Rattle.std.proofs.Common.{arith}
 use Rattle.texts.proofs.Leads.{lead_more, lead_stop, lead_end}
 use Rattle.texts.proofs.runs.leading.Goals as goal
 

@@ -1,5 +1,4 @@
-use Rattle.std.proofs.Common.{◌≡◌, ℕ, ◌<◌, vec_items, vec_len, sym, subst}
-use Rattle.classes.specs.Labels.{Numbered}
+use Rattle.std.proofs.Common.{ℕ, ◌<◌, vec_items, vec_len}
 use Rattle.classes.proofs.Places.{each_more_if}
 use Rattle.classes.proofs.numbering.Numbering.add.Goals as goal
 

@@ -1,4 +1,4 @@
-use Rattle.std.proofs.Common.{ℕ, ◌+◌, ◌<◌, get_or, vec_items, rules}
+use Rattle.std.proofs.Common.{ℕ, ◌+◌, ◌<◌, get_or, vec_items}
 use Rattle.systems.specs.declared.instance.Instance.{Instance}
 use Rattle.gathering.specs.Bounds.{nowhere}
 use Rattle.classes.proofs.Places.{each_more_if}

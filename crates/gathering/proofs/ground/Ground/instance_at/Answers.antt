@@ -1,4 +1,4 @@
-use Rattle.std.proofs.Common.{ℕ, ◌+◌, ◌<◌, vec_len, arith, rules}
+use Rattle.std.proofs.Common.{◌+◌, ◌<◌, vec_len, arith, rules}
 use Rattle.gathering.proofs.Places.{set_more}
 use Rattle.gathering.proofs.ground.Ground.instance_at.Goals as goal
 

@@ -1,13 +1,14 @@
-use Rattle.std.proofs.Common.{◌≡◌, suc, ◌+◌, ◌-◌, ◌<◌, ◌≤◌, length, take, drop, sym, refl, ap, ◌∙◌, subst, zero-add, add-one, arith, length-drop, rules}
+use Rattle.std.proofs.Common.{◌≡◌, suc, ◌+◌, ◌-◌, ◌<◌, length, take, drop, refl, ap, subst, ◌∙◌, zero-add, add-one, arith, length-drop, rules}
 use native.Mathlib.Nat.{sub-zero}
 use Rattle.std.proofs.lemmas.List.{nil_from_length}
+use Rattle.lines.specs.Ends.{Trimmed}
 use Rattle.lines.specs.Lines.{line_length, trimmed}
 use Rattle.lines.proofs.lines.Lines.next_line.Goals as goal
 
 pub returns-then-is_empty : goal.returns-then-is_empty
 returns-then-is_empty c =
     let none : length c.args.self.now.rest.now ≡ 0 = search rules in
-    record { line = (nil_from_length _ none, refl); less = tt; rest = omega arith }
+    record { line = (none, refl); given = (nil_from_length _ none, refl); less = tt; rest = omega arith }
 
 pub returns : goal.returns
 returns c =
@@ -19,6 +20,14 @@ returns c =
     let less : length c.after-self.result.now < length old = omega (arith, ap length c.after-self.ensures, length-drop (end + 1) old) in
     record {
       line = (
+        end,
+        len,
+        c.line_end-end.ensures.ends,
+        subst (λ n. Trimmed (take n old) len) (sub-zero end) c.trimmed_len-len.ensures.kept,
+        (λ k. take (sub-zero len k) (take (sub-zero end k) old)),
+        c.after-self.ensures,
+      );
+      given = (
         ap (λ n. take n (take (end - 0) old)) (sub-zero len) ∙ c.trimmed_len-len.ensures.value ∙ ap (λ n. trimmed (take n old)) (sub-zero end ∙ ends),
         c.after-self.ensures ∙ ap (λ n. drop n old) (add-one end ∙ ap suc ends),
       );

@@ -1,4 +1,4 @@
-use Rattle.std.proofs.Common.{◌*◌, ◌/◌, ◌<◌, arith}
+use Rattle.std.proofs.Common.{◌/◌, ◌<◌, arith}
 use Rattle.std.proofs.lemmas.Nat.{mod_below}
 use Rattle.orders.specs.Turns.{column_below}
 use Rattle.orders.proofs.columns.ColumnsOrder.cell_at.Goals as goal

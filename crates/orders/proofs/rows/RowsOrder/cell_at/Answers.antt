@@ -1,4 +1,4 @@
-use Rattle.std.proofs.Common.{◌*◌, ◌/◌, ◌<◌, arith}
+use Rattle.std.proofs.Common.{◌/◌, ◌<◌, arith}
 use Rattle.std.proofs.lemmas.Nat.{mod_below}
 use Rattle.orders.specs.Turns.{row_below}
 use Rattle.orders.proofs.rows.RowsOrder.cell_at.Goals as goal

@@ -1,4 +1,4 @@
-use Rattle.std.proofs.Common.{◌≡◌, length, take, Some, sym, refl, ap, ◌∙◌, subst, rules}
+use Rattle.std.proofs.Common.{◌≡◌, length, take, Some, refl, rules}
 use Rattle.frames.specs.Frames.{number_at}
 use Rattle.planes.specs.declared.tie.Tie.TheVariants.{Free}
 use Rattle.planes.specs.Pins.{pinned}

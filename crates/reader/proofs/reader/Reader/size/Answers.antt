@@ -1,4 +1,4 @@
-use Rattle.std.proofs.Common.{sym, refl, ◌∙◌}
+use Rattle.std.proofs.Common.{refl, ◌∙◌}
 use Rattle.rle.specs.Scans.{good, bad, judged, size}
 use Rattle.reader.specs.Left.{left}
 use Rattle.reader.proofs.Numerals.{judged_good, judged_bad}

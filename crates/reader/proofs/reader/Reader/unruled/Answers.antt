@@ -1,4 +1,4 @@
-use Rattle.std.proofs.Common.{sym, ap, ◌∙◌}
+use Rattle.std.proofs.Common.{ap, ◌∙◌}
 use Rattle.rle.specs.Items.{unruled}
 use Rattle.reader.specs.Left.{left}
 use Rattle.reader.specs.Shown.{retold, told_head}

@@ -1,4 +1,4 @@
-use Rattle.std.proofs.Common.{◌≡◌, ◌-◌, ◌%◌, ◌<◌, length, sym, ◌∙◌, arith, rules}
+use Rattle.std.proofs.Common.{◌≡◌, ◌%◌, ◌<◌, length, sym, ◌∙◌, arith, rules}
 use Rattle.rules.proofs.Forms.{even_read, odd_read, accepted}
 use Rattle.rules.proofs.Steps.{empty_text, other_front, births_last, no_slash, no_letter, text_left, text_read}
 use Rattle.rules.proofs.rule.Rule.parse.Goals as goal

@@ -1,4 +1,4 @@
-use Rattle.std.proofs.Common.{◌≡◌, ℕ, ◌<◌, ◌≤◌, vec_items, vec_len, ap, arith}
+use Rattle.std.proofs.Common.{ℕ, ◌<◌, ◌≤◌, vec_len, ap, arith}
 use Rattle.search.specs.declared.standing.Decision.{Decision}
 use Rattle.search.proofs.Pushed.{each_pushed}
 use Rattle.search.proofs.record.Record.choose.Goals as goal

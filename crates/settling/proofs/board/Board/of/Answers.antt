@@ -1,4 +1,4 @@
-use Rattle.std.proofs.Common.{◌≡◌, ℕ, ◌+◌, ◌<◌, length, get_or, vec_items, vec_len, arith, rules}
+use Rattle.std.proofs.Common.{vec_items, arith, rules}
 use Rattle.settling.proofs.Counted.{unknowns_le}
 use Rattle.settling.proofs.board.Board.of.Goals as goal
 

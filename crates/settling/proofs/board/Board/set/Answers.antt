@@ -1,7 +1,6 @@
-use Rattle.std.proofs.Common.{◌≡◌, ℕ, ◌+◌, ◌<◌, ◌≤◌, get_or, set, vec_items, vec_len, vec_capacity, sym, ◌∙◌, arith, rules}
+use Rattle.std.proofs.Common.{◌≡◌, ℕ, ◌+◌, ◌<◌, get_or, vec_items, sym, ◌∙◌, arith, rules}
 use Rattle.std.proofs.lemmas.List.{get_or_read}
-use Rattle.codes.specs.declared.value.Value.TheVariants.{Off, Unknown}
-use Rattle.settling.specs.Counts.{unknowns}
+use Rattle.codes.specs.declared.value.Value.TheVariants.{Off}
 use Rattle.settling.proofs.Counted.{set_known}
 use Rattle.classes.proofs.Places.{each_more}
 use Rattle.settling.proofs.board.Board.set.Goals as goal

@@ -1,4 +1,4 @@
-use Rattle.std.proofs.Common.{◌≡◌, ℕ, ◌+◌, ◌<◌, ◌≤◌, get_or, vec_items, vec_len, arith, rules}
+use Rattle.std.proofs.Common.{◌≡◌, get_or, vec_items, arith, rules}
 use Rattle.std.proofs.lemmas.List.{get_or_read}
 use Rattle.settling.proofs.board.Board.trail_at.Goals as goal
 

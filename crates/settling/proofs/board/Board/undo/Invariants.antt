@@ -1,4 +1,4 @@
-use Rattle.std.proofs.Common.{◌≡◌, ◌-◌, ◌≤◌, min, vec_len}
+use Rattle.std.proofs.Common.{◌≡◌, ◌≤◌, min, vec_len}
 use Rattle.settling.proofs.board.Board.undo.Given as goal
 
 abbrev pub invariant-loop-self : goal.invariant-loop-self
