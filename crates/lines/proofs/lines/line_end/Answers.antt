@@ -10,11 +10,11 @@ loop-end-preserved c =
       λ h. omega arith,
       omega arith,
       λ k low high newline.
-        elim (cases_order k c.loop-end.end) [
-          | inl same ↦ c.if-text-end-ne10.true (subst (λ (n : ℕ). get_or c.args.text.now n 0 ≡ 10) same newline)
-          | inr (inl less) ↦ i.3 k low less newline
-          | inr (inr more) ↦ absurd (omega arith)
-        ],
+          elim (cases_order k c.loop-end.end) [
+            | inl same ↦ c.if-text-end-ne10.true (subst (λ (n : ℕ). get_or c.args.text.now n 0 ≡ 10) same newline)
+            | inr (inl less) ↦ i.3 k low less newline
+            | inr (inr more) ↦ absurd (omega arith)
+          ],
     )
 
 pub returns-else-text-end-ne10 : goal.returns-else-text-end-ne10

@@ -14,11 +14,11 @@ loop-end-preserved c =
       omega arith,
       trimmed_shorter c.args.line.now c.loop-end.end c.loop-end-test.true i.0 (sym c.if-is_blank.ensures) ∙ i.1,
       λ k low high.
-        elim (cases_order k (c.loop-end.end - 1)) [
-          | inl same ↦ subst (λ (n : ℕ). blank (get_or c.args.line.now n 0) ≡ true) (sym same) (sym c.if-is_blank.ensures)
-          | inr (inl less) ↦ absurd (omega arith)
-          | inr (inr more) ↦ i.2 k (omega arith) high
-        ],
+          elim (cases_order k (c.loop-end.end - 1)) [
+            | inl same ↦ subst (λ (n : ℕ). blank (get_or c.args.line.now n 0) ≡ true) (sym same) (sym c.if-is_blank.ensures)
+            | inr (inl less) ↦ absurd (omega arith)
+            | inr (inr more) ↦ i.2 k (omega arith) high
+          ],
     )
 
 pub returns-else-is_blank : goal.returns-else-is_blank
