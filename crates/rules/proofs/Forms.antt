@@ -2,7 +2,7 @@
 use Rattle.std.proofs.Common.{◌≡◌, ℕ, ◌+◌, ◌-◌, ◌%◌, ◌^◌, ◌<◌, ◌≤◌, true, ◌&&◌, eqb, leb, ◌⊎◌, List, [], ◌∷◌, ◌++◌, map, get_or, Ok, Err, Result, sym, refl, ap, ◌∙◌, subst, inl, inr, arith, pow_mono}
 use Rattle.std.specs.List.{range_with_len}
 use Rattle.std.proofs.lemmas.List.FromFn.{get_or-map-range_with_len}
-use Rattle.std.proofs.lemmas.List.{append_assoc}
+use Rattle.std.proofs.lemmas.List.{append_assoc, append-nil}
 use Rattle.std.proofs.lemmas.Bool.{cond_both, cond-true, cond-false, cases_lt, and_parts, leb-true, eqb-true, eq-eqb, ne_eqb}
 use Rattle.rules.specs.Forms.{Sets, Row, rising, ended, divided, parsed, quiet_only, digits_below, written, FormsStand}
 use Rattle.rules.specs.declared.fault.RuleFault.{RuleFault}
@@ -71,10 +71,6 @@ ended_view b s (x ∷ xs) = inl refl
 abbrev Divided : List ℕ → Type 0
 Divided bs = (s : ℕ) × (s < 512) × (bs ≡ 47 ∷ 83 ∷ digits_below 9 s)
 
-append_nil_right : (xs ys : List ℕ) → ys ≡ [] → xs ++ ys ≡ xs
-append_nil_right [] ys e = e
-append_nil_right (x ∷ xs) ys e = ap (λ l. x ∷ l) (append_nil_right xs ys e)
-
 divided_view : (b : ℕ) (bs : List ℕ) → (divided b bs ≡ Err Form) ⊎ Divided bs
 unfolding divided
 divided_view b [] = inl refl
@@ -89,7 +85,7 @@ divided_view b (x ∷ y ∷ bs) =
     elim (ended_view b (rising 0 0 bs).set (rising 0 0 bs).rest) [
       | inl bad ↦ inl bad
       | inr none ↦
-          let all : bs ≡ digits_below 9 (rising 0 0 bs).set = row.1 ∙ append_nil_right (digits_below 9 (rising 0 0 bs).set) (rising 0 0 bs).rest none in
+          let all : bs ≡ digits_below 9 (rising 0 0 bs).set = row.1 ∙ ap (λ l. digits_below 9 (rising 0 0 bs).set ++ l) none ∙ append-nil (digits_below 9 (rising 0 0 bs).set) in
           inr ((rising 0 0 bs).set, row.0, (cc))
     ])
     (λ e. inl refl)
@@ -124,9 +120,6 @@ odd_read b s odd = cond-true (eqb (b % 2) 1) (Err BirthZero) (Ok (record { birth
 parity : (b : ℕ) → (b % 2 ≡ 0) ⊎ (b % 2 ≡ 1)
 parity b = elim (cases_lt (b % 2) 1) [ inl low ↦ inl (omega arith) | inr high ↦ inr (omega arith) ]
 
-never : {A : Type 0} → ◌≡◌ {A = ℕ} 0 1 → A
-never e = absurd (omega arith)
-
 abbrev same_sets : Result Sets RuleFault → Sets
 same_sets (Ok x) = x
 same_sets (Err e) = record { births = 0; survivals = 0 }
@@ -134,7 +127,7 @@ same_sets (Err e) = record { births = 0; survivals = 0 }
 pub accepted : (t : List ℕ) (b s : ℕ) → parsed t ≡ Ok (record { births = b; survivals = s }) → (b < 512) × (s < 512) × (b % 2 ≡ 0) × (t ≡ written b s)
 accepted t b s e =
     elim (form_view t) [
-      | inl bad ↦ never (cc)
+      | inl bad ↦ absurd (cc)
       | inr a ↦
           let read : parsed t ≡ quiet_only a.0 a.1 = ap parsed a.4 ∙ parsed_written a.0 a.1 a.2 a.3 in
           elim (parity a.0) [
@@ -145,18 +138,18 @@ accepted t b s e =
                 let small : a.0 < 512 = a.2 in
                 let few : a.1 < 512 = a.3 in
                 (omega arith, omega arith, subst (λ n. n % 2 ≡ 0) eb even, (cc a.4))
-            | inr odd ↦ let bad : quiet_only a.0 a.1 ≡ Err BirthZero = odd_read a.0 a.1 odd in never (cc)
+            | inr odd ↦ let bad : quiet_only a.0 a.1 ≡ Err BirthZero = odd_read a.0 a.1 odd in absurd (cc)
           ]
     ]
 
 pub loud : (t : List ℕ) → parsed t ≡ Err BirthZero → (b : ℕ) × (s : ℕ) × (b < 512) × (s < 512) × (b % 2 ≡ 1) × (t ≡ written b s)
 loud t e =
     elim (form_view t) [
-      | inl bad ↦ never (cc)
+      | inl bad ↦ absurd (cc)
       | inr a ↦
           let read : parsed t ≡ quiet_only a.0 a.1 = ap parsed a.4 ∙ parsed_written a.0 a.1 a.2 a.3 in
           elim (parity a.0) [
-            | inl even ↦ let good = even_read a.0 a.1 even in never (cc)
+            | inl even ↦ let good = even_read a.0 a.1 even in absurd (cc)
             | inr odd ↦ (a.0, a.1, a.2, a.3, odd, a.4)
           ]
     ]

@@ -1,41 +1,38 @@
-ghost use Rattle.std.specs.Prelude.{◌≡◌, ◌+◌, ◌/◌, ◌%◌, ◌<◌, ◌≤◌, ◌&&◌, length, drop, IfOk, ◌==◌};
+ghost use Rattle.std.specs.Prelude.{◌≡◌, ◌/◌, ◌%◌, ◌<◌, ◌&&◌, IfOk, ◌==◌};
 ghost use Rattle.rules.specs.Answers.{answer, holds};
 ghost use Rattle.rules.specs.Forms.{parsed, rising, shown, written, FormsStand};
 
 use crate::fault::RuleFault;
 use crate::rule::Rule;
 
-// Digits read from a text, as a set, and the place after them.
+// Digits read from the front of a text, as a set, and the bytes after them.
 #[derive(Clone, Copy)]
-struct Digits {
+struct Digits<'a> {
     set: u16,
-    end: usize,
+    rest: &'a [u8],
 }
 
-// The longest row of rising digits from 0 to 8 that starts at `at`.
-fn rising_digits(text: &[u8], at: usize) -> Digits
-    requires { at ≤ length text.now }
-    ensures bounds { (result.«end» ≤ length text.now) × ((at ≤ result.«end») × (result.set < 512)) }
-    ensures row { rising 0 0 (drop at text.now) ≡ record { set = result.set; rest = drop result.«end» text.now } }
+// The longest row of rising digits from 0 to 8 at the front of a text.
+fn rising_digits(text: &[u8]) -> Digits<'_>
+    ensures few { result.set < 512 }
+    ensures row { rising 0 0 text.now ≡ record { set = result.set; rest = result.rest.now } }
 {
     let mut set: u16 = 0;
-    let mut end = at;
-    let mut least = 0u8;
-    while end < text.len() {
-        let byte = text[end];
-        if byte < b'0' + least || byte > b'8' {
+    let mut rest = text;
+    let mut least = b'0';
+    while let [byte, after @ ..] = rest {
+        if *byte < least || *byte > b'8' {
             break;
         }
-        let digit = byte - b'0';
-        set += 1 << digit;
-        least = digit + 1;
-        end += 1;
+        set += 1 << (*byte - b'0');
+        least = *byte + 1;
+        rest = after;
     }
-    Digits { set, end }
+    Digits { set, rest }
 }
 
 // Whether a set of bits holds a digit.
-pub(crate) fn holds_digit(set: u16, digit: u8) -> bool
+pub(crate) fn holds_digit(set: u16, digit: u32) -> bool
     requires { digit < 9 }
     ensures { result ≡ holds set digit }
 {
@@ -48,16 +45,15 @@ impl Rule {
         ensures value { shown result ≡ parsed text.now }
         ensures form { IfOk result (λ rule. text.now ≡ written rule.births rule.survivals) }
     {
-        if text.is_empty() || text[0] != b'B' {
+        let [b'B', after_letter @ ..] = text else {
             return Err(RuleFault::Form);
-        }
-        let births = rising_digits(text, 1);
-        let end = births.end;
-        if text.len() - end < 2 || text[end] != b'/' || text[end + 1] != b'S' {
+        };
+        let births = rising_digits(after_letter);
+        let [b'/', b'S', after_slash @ ..] = births.rest else {
             return Err(RuleFault::Form);
-        }
-        let survivals = rising_digits(text, end + 2);
-        if survivals.end != text.len() {
+        };
+        let survivals = rising_digits(after_slash);
+        if !survivals.rest.is_empty() {
             return Err(RuleFault::Form);
         }
         if births.set % 2 == 1 {
@@ -70,11 +66,9 @@ impl Rule {
     }
 
     // The texts that are rules are the written forms of rules, one for each.
-    pub fn forms_stand() -> u8
+    pub fn forms_stand()
         ensures { FormsStand }
-    {
-        0
-    }
+    {}
 
     // Whether this is B3/S23.
     pub fn is_life(&self) -> bool
@@ -91,6 +85,17 @@ impl Rule {
             return false;
         }
         let set = if centre { self.survivals } else { self.births };
-        holds_digit(set, sum as u8)
+        holds_digit(set, sum)
+    }
+}
+
+impl TryFrom<&[u8]> for Rule {
+    type Error = RuleFault;
+
+    ghost try_from_gives = { λ text answer. shown answer ≡ parsed text.now };
+
+    // The rule of a text, as `parse` reads it.
+    fn try_from(text: &[u8]) -> Result<Rule, RuleFault> {
+        Rule::parse(text)
     }
 }

@@ -1,29 +1,39 @@
-use Rattle.std.proofs.Common.{◌≡◌, ℕ, ◌<◌, length, get_or, Option, sym, refl, subst, arith, rules}
+use Rattle.std.proofs.Common.{◌≡◌, ℕ, ◌<◌, ◌≤◌, List, [], ◌∷◌, length, get_or, Option, sym, subst, arith, rules}
+use Rattle.std.specs.Str.Parse.{ParsesUnsigned}
+use Rattle.std.proofs.lemmas.List.{get_or_past}
 use Rattle.numbers.specs.Reading.{Reads}
-use Rattle.numbers.proofs.Rows.{never_empty, never_zero_first, never_further, step, whole}
+use Rattle.numbers.proofs.Rows.{never_plus, never_zero_first, never_other, parsed_reads}
 use Rattle.numbers.proofs.reading.read_decimal.Goals as goal
-use Rattle.numbers.proofs.reading.read_decimal.Goals.{else-digits-gt1-via-then-digits-gt1+else-digits-eq48, else-digits-gt1-via-else-digits-gt1}
+use Rattle.numbers.proofs.reading.read_decimal.Goals.{then-digits-lt1, else-digits-lt1+in_default-1, then-digits-lt2, else-digits-lt2+in_default-1}
 
-pub returns-then-is_empty : goal.returns-then-is_empty
-returns-then-is_empty c = never_empty c.args.digits.now (search rules)
+some : (bs : List ℕ) → get_or bs 0 0 ≡ 48 → 1 ≤ length bs
+some [] e = absurd (omega arith)
+some (b ∷ bs) e = omega arith
 
-pub returns-then-digits-eq48 : goal.returns-then-digits-eq48
-returns-then-digits-eq48 c = never_zero_first c.args.digits.now (omega arith) (omega arith)
+pub returns-in-43 : goal.returns-in-43
+returns-in-43 c = never_plus c.args.digits.now (omega arith)
 
-pub returns-in_err-value : goal.returns-in_err-value
-returns-in_err-value c =
+pub returns-in-48 : goal.returns-in-48
+returns-in-48 c = never_zero_first c.args.digits.now (omega arith) (omega arith)
+
+pub returns-in_err-ok : goal.returns-in_err-ok
+returns-in_err-ok c =
     let P : Option ℕ → Type 0 = Reads c.args.digits.now in
-    subst P (sym c.from_residual.ensures) (never_further c.args.digits.now c.loop-digit.digit-index _ c.loop-digit.value (omega arith) refl c.loop-digit.invariant.1 c.in_err-value.ensures)
-
-pub loop-digit-preserved : goal.loop-digit-preserved
-loop-digit-preserved c =
-    let told = c.in_ok-value.ensures in
-    let next = step c.args.digits.now c.loop-digit.digit-index _ c.loop-digit.value c.in_ok-value.value (omega arith) refl told.0 told.1 c.loop-digit.invariant.0 c.loop-digit.invariant.1 told.2 in
-    (next.0, next.1, told.3)
+    subst P (sym c.from_residual.ensures) (never_other c.args.digits.now (λ text. search rules))
 
 pub returns : goal.returns
 returns c =
-    let some : 0 < length c.args.digits.now = search rules in
-    let single : get_or c.args.digits.now 0 0 ≡ 48 → length c.args.digits.now ≡ 1 =
-    λ e. elim c.else-digits-gt1.branch [ else-digits-gt1-via-then-digits-gt1+else-digits-eq48 w ↦ absurd (w.if-digits-eq48.false e) | else-digits-gt1-via-else-digits-gt1 w ↦ omega arith ] in
-    whole c.args.digits.now c.loop-digit.digit-index c.loop-digit.value (omega arith) some single c.loop-digit.invariant.0 c.loop-digit.invariant.1 c.loop-digit.invariant.2
+    let bs = c.args.digits.now in
+    let text = c.in_ok-ok.field-0.now in
+    let plus : get_or bs 0 0 ≡ 43 → ⊥ = λ e.
+    elim c.if-digits-lt1.branch [
+      | then-digits-lt1 w ↦ let short : length bs < 1 = search rules in omega (arith, get_or_past bs 0 0)
+      | else-digits-lt1+in_default-1 w ↦ omega (arith, get_or_past bs 0 0)
+    ] in
+    let single : get_or bs 0 0 ≡ 48 → length bs ≡ 1 = λ e.
+    elim c.if-digits-lt2.branch [
+      | then-digits-lt2 w ↦ let short : length bs < 2 = search rules in omega (arith, some bs e)
+      | else-digits-lt2+in_default-1 w ↦ omega (arith, get_or_past bs 0 0)
+    ] in
+    let same : text ≡ bs = search rules in
+    parsed_reads bs c.parse.result c.ok-2.result plus single (subst (λ t. ParsesUnsigned 64 10 t c.parse.result) same c.parse.ensures.value.0) c.ok-2.ensures.value
