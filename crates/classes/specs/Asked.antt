@@ -1,5 +1,6 @@
 -- What the ties ask of each class, and how many classes nothing is asked of.
-use Rattle.std.specs.Prelude.{ℕ, zero, suc, ◌+◌, ◌/◌, ◌%◌, Bool, true, false, cond, ◌&&◌, ◌||◌, List, [], ◌∷◌, replicate, slice_index, slice_index_or, slice_set}
+use Rattle.std.specs.Prelude.{ℕ, zero, suc, ◌/◌, ◌%◌, Bool, true, false, ◌&&◌, ◌||◌, not, List, count_by, replicate, slice_index, slice_index_or, slice_set}
+use Rattle.std.specs.List.{list_any}
 use Rattle.planes.specs.declared.tie.Tie.{Tie}
 use Rattle.planes.specs.declared.tie.Tie.TheVariants.{Free, Off, On, Same}
 use Rattle.classes.specs.declared.classes.Musts.{Musts}
@@ -22,13 +23,11 @@ asked_after tie size classes count (suc n) = asked_by (asked_after tie size clas
 
 -- how many classes nothing is asked of
 abbrev pub free_among : List Musts → ℕ
-free_among [] = 0
-free_among (m ∷ ms) = cond (m.off || m.on) 0 1 + free_among ms
+free_among ms = count_by (λ m. not (m.off || m.on)) ms
 
 -- whether something is asked to be off and on at once
 abbrev pub torn_among : List Musts → Bool
-torn_among [] = false
-torn_among (m ∷ ms) = (m.off && m.on) || torn_among ms
+torn_among ms = list_any (λ m. m.off && m.on) ms
 
 -- whether off, for false, or on, for true, is asked
 abbrev pub asks : Bool → Musts → Bool

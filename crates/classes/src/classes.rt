@@ -1,7 +1,7 @@
 ghost use Rattle.std.specs.Prelude.{◌≡◌, ℕ, ◌<◌, ◌≤◌, vec_len, slice_index};
 
 // What the ties ask of a class: to be off, to be on, both (then it is torn) or nothing.
-#[derive(Clone, Copy)]
+#[derive(Clone, Copy, Default)]
 pub struct Musts {
     pub off: bool,
     pub on: bool,

@@ -4,10 +4,11 @@ ghost use Rattle.classes.specs.Joins.{TiesInside};
 ghost use Rattle.classes.specs.Labels.{Low, joined_labels};
 ghost use Rattle.classes.specs.Numbers.{Numbers, numbers_of};
 ghost use Rattle.frames.specs.Frames.{cells};
+ghost use Rattle.rolls.specs.Rolls.{surface};
 ghost use Rattle.std.specs.List.{range_with_len};
 
-use crate::classes::Classes;
-use crate::musts::{count_free, no_musts, note_all};
+use crate::classes::{Classes, Musts};
+use crate::musts::{count_free, note_all};
 use crate::numbering::Numbering;
 use crate::uniting::join;
 use planes::{Plane, Space};
@@ -18,11 +19,7 @@ fn own_labels(heap: Global, cells: u32) -> Result<Vec<u16>, AllocError>
     requires { cells ≤ 4096 }
     ensures { IfOk result (λ v. v.items ≡ range_with_len 0 cells) }
 {
-    let mut labels = Vec::new(heap);
-    for cell in 0..cells {
-        labels.push(cell as u16)?;
-    }
-    Ok(labels)
+    (0..cells as u16).collect(heap)
 }
 
 // Unites cells by every tie to another cell.
@@ -30,7 +27,7 @@ fn join_all<S: Space>(labels: &mut [u16], space: &S)
     requires { labels.old ≡ range_with_len 0 (cells (S.Plane.means space.now).frame) }
     ensures value { labels.new ≡ joined_labels (S.Plane.means space.now).frame (S.Space.count space.now) (S.Space.tied space.now) }
     ensures low { Low labels.new }
-    ensures inside { TiesInside (record { frame = (S.Plane.means space.now).frame; look = (S.Plane.means space.now).look; rows = S.Space.count space.now; tie = S.Space.tied space.now }) }
+    ensures inside { TiesInside (surface (S.Plane.means space.now) (S.Space.count space.now) (S.Space.tied space.now)) }
 {
     let cells = space.frame().cells();
     for tie in 0..space.rows() * cells {
@@ -44,7 +41,7 @@ fn joined_labels<S: Space>(heap: Global, space: &S) -> Result<Vec<u16>, AllocErr
     ensures value { IfOk result (λ v. v.items ≡ joined_labels (S.Plane.means space.now).frame (S.Space.count space.now) (S.Space.tied space.now)) }
     ensures len { IfOk result (λ v. vec_len v ≡ cells (S.Plane.means space.now).frame) }
     ensures low { IfOk result (λ v. Low v.items) }
-    ensures inside { OnOk result (TiesInside (record { frame = (S.Plane.means space.now).frame; look = (S.Plane.means space.now).look; rows = S.Space.count space.now; tie = S.Space.tied space.now })) }
+    ensures inside { OnOk result (TiesInside (surface (S.Plane.means space.now) (S.Space.count space.now) (S.Space.tied space.now))) }
 {
     let mut labels = own_labels(heap, space.frame().cells())?;
     join_all(labels.as_mut_slice(), space);
@@ -72,13 +69,13 @@ pub fn classes_of<S: Space>(heap: Global, space: &S) -> Result<Classes, AllocErr
     ensures numbers { IfOk result (λ c. ◌≡◌ {A = Numbers} (record { classes = c.labels.items; lowest = c.lowest.items }) (numbers_of (joined_labels (S.Plane.means space.now).frame (S.Space.count space.now) (S.Space.tied space.now)))) }
     ensures musts { IfOk result (λ c. c.musts.items ≡ asked_after (S.Space.tied space.now) (cells (S.Plane.means space.now).frame) c.labels.items (vec_len c.lowest) (S.Space.count space.now * cells (S.Plane.means space.now).frame)) }
     ensures free { IfOk result (λ c. c.free ≡ free_among c.musts.items) }
-    ensures inside { OnOk result (TiesInside (record { frame = (S.Plane.means space.now).frame; look = (S.Plane.means space.now).look; rows = S.Space.count space.now; tie = S.Space.tied space.now })) }
+    ensures inside { OnOk result (TiesInside (surface (S.Plane.means space.now) (S.Space.count space.now) (S.Space.tied space.now))) }
 {
     let joined = joined_labels(heap, space)?;
     let Numbering { labels, lowest } = numbered(heap, joined.as_slice())?;
-    let mut musts = no_musts(heap, lowest.len())?;
+    let mut musts = vec![in heap; Musts::default(); lowest.len()]?;
     note_all(musts.as_mut_slice(), labels.as_slice(), space);
-    let free = count_free(musts.as_slice());
+    let free = count_free(musts.as_slice()) as u32;
     Ok(Classes {
         labels,
         lowest,

@@ -7,14 +7,16 @@ use crate::musts::any_torn;
 impl Classes {
     // How many cells there are.
     pub fn cells(&self) -> usize
-        ensures { (result ≡ vec_len self.now.labels) × (result ≤ 4096) }
+        ensures count { result ≡ vec_len self.now.labels }
+        ensures few { result ≤ 4096 }
     {
         self.labels.len()
     }
 
     // How many classes there are.
     pub fn count(&self) -> usize
-        ensures { (result ≡ vec_len self.now.lowest) × (result ≤ 4096) }
+        ensures count { result ≡ vec_len self.now.lowest }
+        ensures few { result ≤ 4096 }
     {
         self.lowest.len()
     }
@@ -37,24 +39,13 @@ impl Classes {
     pub fn class_of(&self, cell: usize) -> Option<u16>
         ensures { MatchOption result (vec_len self.now.labels ≤ cell) (λ class. (class ≡ slice_index self.now.labels.items cell) × (class < vec_len self.now.lowest)) }
     {
-        if cell < self.labels.len() {
-            Some(self.labels[cell])
-        } else {
-            None
-        }
+        self.labels.get(cell).copied()
     }
 
     // What is asked of a class; nothing where there is no such class.
     pub fn musts(&self, class: usize) -> Musts
         ensures { result ≡ slice_index_or self.now.musts.items class unasked }
     {
-        if class < self.musts.len() {
-            self.musts[class]
-        } else {
-            Musts {
-                off: false,
-                on: false,
-            }
-        }
+        self.musts.get(class).copied().unwrap_or_default()
     }
 }

@@ -36,29 +36,14 @@ two_bit true false true true = refl
 two_bit true true true false = refl
 two_bit true true true true = refl
 
-by_two : (o a b : Bool) → cond o (cond a 2 0 + cond b 4 0) 0 ≡ 2 * two o a b
+-- two tests weighed, the second twice as much as the first
+by_weight : (w : ℕ) (o a b : Bool) → cond o (cond a w 0 + cond b (w + w) 0) 0 ≡ w * two o a b
 unfolding two
-by_two false a b = refl
-by_two true false false = refl
-by_two true true false = refl
-by_two true false true = refl
-by_two true true true = refl
-
-by_eight : (o a b : Bool) → cond o (cond a 8 0 + cond b 16 0) 0 ≡ 8 * two o a b
-unfolding two
-by_eight false a b = refl
-by_eight true false false = refl
-by_eight true true false = refl
-by_eight true false true = refl
-by_eight true true true = refl
-
-by_many : (o a b : Bool) → cond o (cond a 32 0 + cond b 64 0) 0 ≡ 32 * two o a b
-unfolding two
-by_many false a b = refl
-by_many true false false = refl
-by_many true true false = refl
-by_many true false true = refl
-by_many true true true = refl
+by_weight w false a b = omega arith
+by_weight w true false false = omega arith
+by_weight w true true false = omega arith
+by_weight w true false true = omega arith
+by_weight w true true true = omega arith
 
 -- a number made of three numbers of two bits
 record Made (n x y z : ℕ) : Type 0 where
@@ -94,9 +79,9 @@ module _ (rule : Bool → ℕ → Bool) (d : Parts) where
       (two (ltb 0 d.unknown) (every (says_neighbours d false) (fitting rule d)) (every (says_neighbours d true) (fitting rule d)))
   made e =
       let ps = fitting rule d in
-      let p = by_two (is_unknown d.centre) (every (says_centre false) ps) (every (says_centre true) ps) in
-      let q = by_eight (is_unknown d.successor) (every (says_successor rule false) ps) (every (says_successor rule true) ps) in
-      let r = by_many (ltb 0 d.unknown) (every (says_neighbours d false) ps) (every (says_neighbours d true) ps) in
+      let p = by_weight 2 (is_unknown d.centre) (every (says_centre false) ps) (every (says_centre true) ps) in
+      let q = by_weight 8 (is_unknown d.successor) (every (says_successor rule false) ps) (every (says_successor rule true) ps) in
+      let r = by_weight 32 (ltb 0 d.unknown) (every (says_neighbours d false) ps) (every (says_neighbours d true) ps) in
       record {
         is = cond-false (is_empty ps) 1 _ e ∙ ap₂ ◌+◌ (ap₂ ◌+◌ p q) r;
         few_x = two_few (is_unknown d.centre) (every (says_centre false) ps) (every (says_centre true) ps);

@@ -1,7 +1,7 @@
 -- What is forced stays forced as more is known.
 use Rattle.std.proofs.Common.{◌≡◌, ℕ, Bool, true, false, not, ◌⊎◌, sym, refl, ap, ◌∙◌, inl, inr, arith}
 use Rattle.rules.specs.Answers.{holds}
-use Rattle.std.proofs.lemmas.Bool.{both_ways, cases_Bool, cases_eq, eqb-true, eq-eqb, lt-ltb}
+use Rattle.std.proofs.lemmas.Bool.{both_ways, not_from_true, cases_Bool, cases_eq, eqb-true, eq-eqb, lt-ltb}
 use Rattle.codes.specs.declared.value.Value.{Value}
 use Rattle.codes.specs.declared.value.Value.TheVariants.{Off, On, Unknown}
 use Rattle.codes.specs.Values.{agrees}
@@ -23,11 +23,8 @@ which On true = inl refl
 which Unknown b = inr (inl refl)
 
 clash : (b a : Bool) → agrees (known (not b)) a ≡ true → is b a ≡ true → ⊥
-clash false a g h = both_ways (not a) (not_from a g) h
-  where
-    not_from : (x : Bool) → x ≡ true → not x ≡ false
-    not_from x e = ap not e
-clash true a g h = both_ways (not a) (ap not h) g
+clash false a g h = both_ways (not a) (not_from_true a g) h
+clash true a g h = both_ways (not a) (not_from_true a h) g
 
 module _ (rule : Bool → ℕ → Bool) (d e : Parts) (m : KnowsMore d e) where
   pub fit_less : (p : Pair) → Fit rule e p → Fit rule d p

@@ -1,6 +1,8 @@
 -- The number of each value, and the value of each number.
-use Rattle.std.specs.Prelude.{ℕ, Bool, true, cond, not, ◌==◌}
+use Rattle.std.specs.Prelude.{ℕ, ◌<◌, Bool, true, cond, not, ◌==◌, Result}
+use Rattle.std.specs.Result.{OkIff}
 use Rattle.codes.specs.declared.value.Value.{Value}
+use Rattle.codes.specs.declared.value.UnknownNumber.{UnknownNumber}
 use Rattle.codes.specs.declared.value.Value.TheVariants.{Off, On, Unknown}
 
 abbrev pub number_of : Value → ℕ
@@ -16,3 +18,7 @@ abbrev pub agrees : Value → Bool → Bool
 agrees Off b = not b
 agrees On b = b
 agrees Unknown b = true
+
+-- a number below 3 is that of its value, and no other number names one
+abbrev pub NumberNames : ℕ → Result Value UnknownNumber → Type 0
+NumberNames number read = OkIff read (number < 3) (value_of number)

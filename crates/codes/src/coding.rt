@@ -1,5 +1,5 @@
 ghost use Rattle.std.specs.Prelude.{◌≡◌, ◌+◌, ◌<◌, ◌≤◌, MatchOption};
-ghost use Rattle.codes.specs.Codes.{code, is_unknown, parts_of};
+ghost use Rattle.codes.specs.Codes.{code, is_unknown};
 ghost use Rattle.codes.specs.Laws.{CodeLaw};
 ghost use Rattle.codes.specs.Tables.{index};
 ghost use Rattle.codes.specs.Values.{number_of, agrees};
@@ -18,11 +18,7 @@ impl Value {
     pub fn number(&self) -> u32
         ensures { result ≡ number_of self.now }
     {
-        match self {
-            Value::Off => 0,
-            Value::On => 1,
-            Value::Unknown => 2,
-        }
+        u32::from(*self)
     }
 
     // Whether the cell may have this state: an unknown one may have either.
@@ -40,17 +36,14 @@ impl Value {
     fn is_unknown(&self) -> bool
         ensures { result ≡ is_unknown self.now }
     {
-        match self {
-            Value::Off | Value::On => false,
-            Value::Unknown => true,
-        }
+        matches!(self, Value::Unknown)
     }
 }
 
 impl Descriptor {
     // A descriptor, unless it would have more than 8 neighbours.
     pub fn new(centre: Value, on: u32, unknown: u32, successor: Value) -> Option<Descriptor>
-        ensures { MatchOption result ((on + unknown ≤ 8) → ⊥) (λ d. parts_of d ≡ record { centre = centre; on = on; unknown = unknown; successor = successor }) }
+        ensures { MatchOption result ((on + unknown ≤ 8) → ⊥) (λ d. d ≡ record { centre = centre; on = on; unknown = unknown; successor = successor }) }
     {
         if on > 8 || unknown > 8 - on {
             return None;
@@ -65,10 +58,11 @@ impl Descriptor {
 
     // The place of its code in a table.
     pub fn index(&self) -> usize
-        ensures { (result ≡ index (parts_of self.now)) × (result < 729) }
+        ensures index { result ≡ index self.now }
+        ensures below { result < 729 }
     {
-        let centre = self.centre.number();
-        let successor = self.successor.number();
+        let centre = u32::from(self.centre);
+        let successor = u32::from(self.successor);
         (((centre * 9 + self.on) * 9 + self.unknown) * 3 + successor) as usize
     }
 }
@@ -76,13 +70,12 @@ impl Descriptor {
 // What a descriptor forces under a rule: 1 for a contradiction, or a sum of 2 centre off, 4 centre
 // on, 8 successor off, 16 successor on, 32 unknown neighbours off, 64 unknown neighbours on.
 pub fn code_of(rule: &Rule, descriptor: &Descriptor) -> u8
-    ensures value { result ≡ code (answer rule.now) (parts_of descriptor.now) }
-    ensures tells { CodeLaw (answer rule.now) (parts_of descriptor.now) result }
+    ensures value { result ≡ code (answer rule.now) descriptor.now }
+    ensures tells { CodeLaw (answer rule.now) descriptor.now result }
 {
-    let common = Common::of(rule, descriptor);
-    if common.none {
+    let Some(common) = Common::of(rule, descriptor) else {
         return CONTRADICTION;
-    }
+    };
     let centre = common.centre.weight(descriptor.centre.is_unknown(), 2, 4);
     let successor = common
         .successor

@@ -1,14 +1,13 @@
-// Whether every fitting pair seen so far says off, and whether every one says on.
+// Whether every fitting pair says off, and whether every one says on.
 #[derive(Clone, Copy)]
 pub(crate) struct Verdict {
     pub(crate) off: bool,
     pub(crate) on: bool,
 }
 
-// What the fitting pairs seen so far have in common.
+// What fitting pairs, of which there is at least one, have in common.
 #[derive(Clone, Copy)]
 pub(crate) struct Common {
-    pub(crate) none: bool,
     pub(crate) centre: Verdict,
     pub(crate) successor: Verdict,
     pub(crate) neighbours: Verdict,

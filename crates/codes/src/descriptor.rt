@@ -1,6 +1,5 @@
-ghost use Rattle.std.specs.Prelude.{◌+◌, ◌≤◌};
-
 use crate::value::Value;
+use std::marker::Model;
 
 // What is known of a neighbourhood: its centre, how many neighbours are on and how many unknown,
 // and the centre's successor in the next generation. By its type there are at most 8 of both.
@@ -10,5 +9,17 @@ pub struct Descriptor {
     pub(crate) on: u32,
     pub(crate) unknown: u32,
     pub(crate) successor: Value,
-    ghost few: { on + unknown ≤ 8 },
+}
+
+impl Model for Descriptor {
+    ghost use Rattle.std.specs.Prelude.{◌+◌, ◌≤◌};
+    ghost use Rattle.codes.specs.Codes.{Parts};
+
+    ghost Value = { Parts };
+
+    ghost view = { λ d. record { centre = d.centre; on = d.on; unknown = d.unknown; successor = d.successor } };
+
+    ghost invariant = { λ d. d.on + d.unknown ≤ 8 };
+
+    ghost inverse = { λ p. record { centre = p.centre; on = p.on; unknown = p.unknown; successor = p.successor } };
 }

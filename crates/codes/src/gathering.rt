@@ -1,6 +1,6 @@
-ghost use Rattle.std.specs.Prelude.{◌≡◌, ℕ, ◌+◌, ◌<◌, ◌≤◌, Bool, true, ◌&&◌, [], if◌then◌else◌};
-ghost use Rattle.codes.specs.Codes.{Parts, fitting, parts_of};
-ghost use Rattle.codes.specs.Commons.{Gathers, common_of};
+ghost use Rattle.std.specs.Prelude.{◌≡◌, ◌+◌, ◌<◌, ◌≤◌, ◌&&◌, not, if◌then◌else◌};
+ghost use Rattle.codes.specs.Codes.{fitting};
+ghost use Rattle.codes.specs.Commons.{Gathers, both, common_of, said_by};
 ghost use Rattle.rules.specs.Answers.{answer};
 
 use crate::common::{Common, Verdict};
@@ -8,23 +8,23 @@ use crate::descriptor::Descriptor;
 use rules::Rule;
 
 impl Verdict {
-    // Before the first pair: none says otherwise.
-    fn start() -> Verdict
-        ensures { result ≡ record { off = true; on = true } }
+    // What a state says: off, or on.
+    fn of(state: bool) -> Verdict
+        ensures { result ≡ record { off = not state; on = state } }
     {
         Verdict {
-            off: true,
-            on: true,
+            off: !state,
+            on: state,
         }
     }
 
-    // With one pair more, which says off, or on, or neither.
-    fn with(self, off: bool, on: bool) -> Verdict
-        ensures { result ≡ record { off = off && self.off; on = on && self.on } }
+    // What both of two verdicts say.
+    fn and(self, other: Verdict) -> Verdict
+        ensures { result ≡ record { off = self.off && other.off; on = self.on && other.on } }
     {
         Verdict {
-            off: off && self.off,
-            on: on && self.on,
+            off: self.off && other.off,
+            on: self.on && other.on,
         }
     }
 
@@ -43,47 +43,60 @@ impl Verdict {
 }
 
 impl Common {
-    // Before the first pair.
-    fn start() -> Common
-        ensures { (rule : Bool → ℕ → Bool) (d : Parts) → result ≡ common_of rule d [] }
+    // What a pair says whose successor is `next`.
+    fn said(descriptor: &Descriptor, centre: bool, sum: u32, next: bool) -> Common
+        ensures { result ≡ said_by descriptor.now centre sum next }
     {
-        let both = Verdict::start();
         Common {
-            none: true,
-            centre: both,
-            successor: both,
-            neighbours: both,
+            centre: Verdict::of(centre),
+            successor: Verdict::of(next),
+            neighbours: Verdict {
+                off: sum == descriptor.on,
+                on: sum == descriptor.on + descriptor.unknown,
+            },
         }
     }
 
-    // With a pair more, if it fits.
-    fn with(self, rule: &Rule, descriptor: &Descriptor, centre: bool, sum: u32) -> Common
-        requires { sum ≤ 8 }
-        ensures { Gathers (answer rule.now) (parts_of descriptor.now) (record { centre = centre; sum = sum }) self result }
+    // What this and another pair have in common.
+    fn and(self, other: Common) -> Common
+        ensures { result ≡ both self other }
     {
+        Common {
+            centre: self.centre.and(other.centre),
+            successor: self.successor.and(other.successor),
+            neighbours: self.neighbours.and(other.neighbours),
+        }
+    }
+
+    // What fitting pairs have in common with a pair more, if it fits: the one of a centre where
+    // `more` of the unknown neighbours are on.
+    fn with(
+        before: Option<Common>,
+        rule: &Rule,
+        descriptor: &Descriptor,
+        centre: bool,
+        more: u32,
+    ) -> Option<Common>
+        requires { more ≤ descriptor.now.unknown }
+        ensures { Gathers (answer rule.now) descriptor.now (record { centre = centre; sum = descriptor.now.on + more }) before result }
+    {
+        let sum = descriptor.on + more;
         let next = rule.answer(centre, sum);
         if !descriptor.centre.admits(centre) || !descriptor.successor.admits(next) {
-            return self;
+            return before;
         }
-        let high = descriptor.on + descriptor.unknown;
-        Common {
-            none: false,
-            centre: self.centre.with(!centre, centre),
-            successor: self.successor.with(!next, next),
-            neighbours: self.neighbours.with(sum == descriptor.on, sum == high),
-        }
+        let said = Common::said(descriptor, centre, sum, next);
+        Some(before.map_or(said, |common| said.and(common)))
     }
 
-    // What all fitting pairs of a descriptor have in common.
-    pub(crate) fn of(rule: &Rule, descriptor: &Descriptor) -> Common
-        ensures { result ≡ common_of (answer rule.now) (parts_of descriptor.now)
-            (fitting (answer rule.now) (parts_of descriptor.now)) }
+    // What all fitting pairs of a descriptor have in common, if there is one.
+    pub(crate) fn of(rule: &Rule, descriptor: &Descriptor) -> Option<Common>
+        ensures { result ≡ common_of (answer rule.now) descriptor.now (fitting (answer rule.now) descriptor.now) }
     {
-        let mut common = Common::start();
+        let mut common = None;
         for more in 0..descriptor.unknown + 1 {
-            let sum = descriptor.on + more;
-            common = common.with(rule, descriptor, true, sum);
-            common = common.with(rule, descriptor, false, sum);
+            common = Common::with(common, rule, descriptor, true, more);
+            common = Common::with(common, rule, descriptor, false, more);
         }
         common
     }

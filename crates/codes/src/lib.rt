@@ -16,4 +16,4 @@ pub use descriptor::Descriptor;
 pub use laws::codes_stand;
 pub use life::worked_codes_stand;
 pub use table::Table;
-pub use value::Value;
+pub use value::{UnknownNumber, Value};

@@ -36,13 +36,10 @@ const LIFE_CODES: [u8; 729] = [
 pub(crate) fn life_table() -> Table
     ensures { (i : ℕ) → code_in result i ≡ code_at life_answer i }
 {
-    let codes = LIFE_CODES;
-    Table { codes }
+    Table { codes: LIFE_CODES }
 }
 
 // Codes of B3/S23 worked out by hand are those of its table.
-pub fn worked_codes_stand() -> u8
+pub fn worked_codes_stand()
     ensures { WorkedCodes }
-{
-    0
-}
+{}

@@ -1,7 +1,6 @@
 ghost use Rattle.std.specs.Prelude.{◌≡◌, ℕ, ◌<◌};
 ghost use Rattle.codes.specs.Laws.{TableTells};
 ghost use Rattle.codes.specs.Tables.{code_at, code_in};
-ghost use Rattle.codes.specs.Values.{value_of};
 ghost use Rattle.rules.specs.Answers.{answer};
 
 use crate::coding::code_of;
@@ -11,28 +10,19 @@ use crate::table::Table;
 use crate::value::Value;
 use rules::Rule;
 
-// The value of a number below 3.
-fn value_of(number: usize) -> Value
-    ensures { result ≡ value_of number }
-{
-    match number {
-        0 => Value::Off,
-        1 => Value::On,
-        _ => Value::Unknown,
-    }
-}
-
 // The code at a place of a rule's table: 0 where more than 8 neighbours are on or unknown.
 fn code_at_place(rule: &Rule, place: usize) -> u8
     requires { place < 729 }
     ensures { result ≡ code_at (answer rule.now) place }
 {
+    let centre = Value::try_from(place / 243).unwrap();
     let on = (place / 27 % 9) as u32;
     let unknown = (place / 3 % 9) as u32;
-    match Descriptor::new(value_of(place / 243), on, unknown, value_of(place % 3)) {
-        Some(descriptor) => code_of(rule, &descriptor),
-        None => 0,
-    }
+    let successor = Value::try_from(place % 3).unwrap();
+    Descriptor::new(centre, on, unknown, successor).map_or(
+        0,
+        |descriptor| code_of(rule, &descriptor),
+    )
 }
 
 // The codes of a rule, each worked out.
@@ -40,8 +30,8 @@ fn worked_out(rule: &Rule) -> Table
     ensures { (i : ℕ) → code_in result i ≡ code_at (answer rule.now) i }
 {
     let mut codes = [0u8; 729];
-    for place in 0..729usize {
-        codes[place] = code_at_place(rule, place);
+    for (place, code) in codes.iter_mut().enumerate() {
+        *code = code_at_place(rule, place);
     }
     Table { codes }
 }
@@ -62,6 +52,6 @@ impl Table {
     pub fn code_at(&self, index: usize) -> u8
         ensures { result ≡ code_in self.now index }
     {
-        if index < 729 { self.codes[index] } else { 0 }
+        self.codes.get(index).copied().unwrap_or(0)
     }
 }

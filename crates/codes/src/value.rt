@@ -1,7 +1,42 @@
+ghost use Rattle.std.specs.Prelude.{◌≡◌};
+ghost use Rattle.codes.specs.Values.{NumberNames, number_of};
+
 // What is known of a cell.
 #[derive(Clone, Copy, PartialEq, Eq, Debug)]
 pub enum Value {
     Off,
     On,
     Unknown,
+}
+
+// The number of a value: 0 off, 1 on, 2 unknown.
+impl From<Value> for u32 {
+    ghost from_gives = { λ value number. number ≡ number_of value };
+
+    fn from(value: Value) -> u32 {
+        match value {
+            Value::Off => 0,
+            Value::On => 1,
+            Value::Unknown => 2,
+        }
+    }
+}
+
+// A number that no value has.
+#[derive(Clone, Copy, PartialEq, Eq, Debug)]
+pub struct UnknownNumber(pub usize);
+
+impl TryFrom<usize> for Value {
+    type Error = UnknownNumber;
+
+    ghost try_from_gives = { NumberNames };
+
+    fn try_from(number: usize) -> Result<Value, UnknownNumber> {
+        match number {
+            0 => Ok(Value::Off),
+            1 => Ok(Value::On),
+            2 => Ok(Value::Unknown),
+            _ => Err(UnknownNumber(number)),
+        }
+    }
 }

@@ -8,37 +8,32 @@ use frames::Frame;
 use orders::Order;
 
 // From any state a search tells exactly what is to come, in sequence, each once, in few steps.
-pub fn runs_stand() -> u8
+pub fn runs_stand()
     ensures { RunsTell }
 {
-    0
 }
 
 // A call of go has one answer, every state has a move, and the call as it is computed is the call.
-pub fn goes_stand() -> u8
+pub fn goes_stand()
     ensures { GoLaws }
 {
-    0
 }
 
 // Over every history of calls from an opening the finds told are the first of the roll, in
 // dictionary order, each once; done is answered only when all are told.
-pub fn histories_stand() -> u8
+pub fn histories_stand()
     ensures { HistoriesListed }
 {
-    0
 }
 
 // The worked examples of searches stand.
-pub fn worked_searches_stand() -> u8
+pub fn worked_searches_stand()
     ensures { SearchesWorked }
 {
-    0
 }
 
 // Any order of cells is one, as the law of histories asks for.
-pub fn order_stands<O: Order>(order: &O, frame: &Frame) -> u8
+pub fn order_stands<O: Order>(order: &O, frame: &Frame)
     ensures { Orders (cells frame.now) (O.Order.cell_of_rank order.now frame.now) (O.Order.rank_of_cell order.now frame.now) }
 {
-    0
 }

@@ -9,7 +9,7 @@ use Rattle.planes.specs.declared.neighbours.Offset.{Offset}
 use Rattle.planes.specs.declared.place.Place.{Place}
 use Rattle.planes.specs.declared.tie.Tie.{Tie}
 use Rattle.planes.specs.declared.tie.Tie.TheVariants.{Free, Off, On, Same}
-use Rattle.planes.specs.Meaning.{InBox}
+use Rattle.planes.specs.Meaning.{InBox, Meaning}
 
 -- what a space says: its frame, its looks, how many rows of ties it has, and the tie of each row and cell
 pub record Surface : Type 0 where
@@ -17,6 +17,10 @@ pub record Surface : Type 0 where
   pub look : ℤ → ℤ → Option Place
   pub rows : ℕ
   pub tie : ℕ → ℕ → Tie
+
+-- what a space says that means this plane and has these ties, in so many rows
+abbrev pub surface : Meaning → ℕ → (ℕ → ℕ → Tie) → Surface
+surface plane rows tie = record { frame = plane.frame; look = plane.look; rows = rows; tie = tie }
 
 -- a filling has off (false) or on (true) for each cell, by its number; this is its value at a cell
 abbrev pub at : List Bool → ℕ → Bool

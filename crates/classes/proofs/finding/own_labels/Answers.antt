@@ -1,6 +1,6 @@
-use Rattle.std.proofs.Common.{[], ◌∷◌, ◌++◌, sym, ap, ◌∙◌}
-use Rattle.classes.proofs.United.{counting_push}
+use Rattle.std.proofs.Common.{refl, arith}
+use Rattle.std.proofs.lemmas.Iterator.{YieldsList-from_range, items_from_collect}
 use Rattle.classes.proofs.finding.own_labels.Goals as goal
 
-pub loop-cell-preserved : goal.loop-cell-preserved
-loop-cell-preserved c = c.in_ok-push.ensures.items ∙ ap (λ l. l ++ c.loop-cell.cell ∷ []) c.loop-cell.invariant ∙ sym (counting_push c.loop-cell.cell)
+pub returns : goal.returns
+returns c = items_from_collect c.collect.result c.collect.ensures.ran (YieldsList-from_range 0 c.args.cells c.args.cells refl (omega arith))

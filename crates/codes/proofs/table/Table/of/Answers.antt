@@ -13,5 +13,5 @@ returns-then-is_life c =
     λ i. c.life_table.ensures i ∙ ap (λ (other : Bool → ℕ → Bool). code_at other i) (sym same) in
     record { codes = codes; tell = table_tells rule c.life_table.result codes }
 
-pub returns : goal.returns
-returns c = record { codes = c.worked_out.ensures; tell = table_tells (answer c.args.rule.now) c.worked_out.result c.worked_out.ensures }
+pub returns-clause-tell : goal.returns-clause-tell
+returns-clause-tell c = table_tells _ _ c.worked_out.ensures
