@@ -2,8 +2,6 @@
 #![tactic(auto)]
 
 mod any_order;
-mod choosing;
-mod surface;
 
 pub use any_order::AnyOrder;
-pub use surface::Surface;
+pub use planes::Surface;

@@ -1,5 +1,5 @@
 -- The cell of each rank and the rank of each cell, in the supplied orders.
-use Rattle.std.specs.Prelude.{ℕ, ◌+◌, ◌*◌, ◌/◌, ◌%◌, cond, nat_lt}
+use Rattle.std.specs.Prelude.{ℕ, ◌+◌, ◌*◌, ◌/◌, ◌%◌, Bool, true, false, cond, nat_lt}
 use Rattle.frames.specs.declared.frame.Frame.{Frame}
 use Rattle.frames.specs.Frames.{cells, cell_number, cell_at}
 
@@ -20,3 +20,12 @@ columns_rank f cell = ((cell_at f cell).x * f.height + (cell_at f cell).y) * f.p
 
 abbrev pub columns_cell : Frame → ℕ → ℕ
 columns_cell f rank = cell_number f (rank / f.period / f.height) (rank / f.period % f.height) (rank % f.period)
+
+-- the two by what comes first: the column (true) or the row (false)
+abbrev pub places_rank : Bool → Frame → ℕ → ℕ
+places_rank true = columns_rank
+places_rank false = rows_rank
+
+abbrev pub places_cell : Bool → Frame → ℕ → ℕ
+places_cell true = columns_cell
+places_cell false = rows_cell

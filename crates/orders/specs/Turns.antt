@@ -1,73 +1,134 @@
 -- The laws of orders that rank by a cell's digits in another turn. A cell's own number has the digits t, y and x.
-use Rattle.std.specs.Prelude.{◌≡◌, ℕ, ◌*◌, ◌/◌, ◌%◌, ◌<◌}
+use Rattle.std.specs.Prelude.{◌≡◌, ℕ, ◌*◌, ◌/◌, ◌%◌, ◌<◌, Bool, true, false}
 use Rattle.std.proofs.Common.{subst, sym, ◌∙◌}
 use Rattle.std.proofs.lemmas.Nat.{mod_below}
+use Rattle.frames.specs.declared.frame.Frame.{Frame}
+use Rattle.frames.specs.Frames.{cells}
+use Rattle.orders.specs.Orders.{places_cell, places_rank}
 use Rattle.orders.specs.Radix.{joined, joined_digits, joined_below, high_below, last_of, middle_of, first_of, last_first, first_swapped}
 
-module _ (w h p : ℕ) (pw : 0 < w) (ph : 0 < h) (pp : 0 < p) where
-  -- a cell with the digits t, y and x is below the number of cells
-  cell_below : (x y t : ℕ) → x < w → y < h → t < p → joined h w t y x < w * h * p
-  cell_below x y t hx hy ht = subst (λ n. joined h w t y x < n) (last_first w h p) (joined_below p h w t y x ht hy hx)
+-- a way to number the cells of a box: from column, row and generation to a number and back
+pub record Numbering (w h p : ℕ) : Type 0 where
+  pub number : ℕ → ℕ → ℕ → ℕ
+  pub column : ℕ → ℕ
+  pub row : ℕ → ℕ
+  pub generation : ℕ → ℕ
+  pub number_below : (x y t : ℕ) → x < w → y < h → t < p → number x y t < w * h * p
+  pub column_below : (n : ℕ) → n < w * h * p → column n < w
+  pub row_below : (n : ℕ) → n < w * h * p → row n < h
+  pub generation_below : (n : ℕ) → n < w * h * p → generation n < p
+  pub column_of : (x y t : ℕ) → x < w → y < h → t < p → column (number x y t) ≡ x
+  pub row_of : (x y t : ℕ) → x < w → y < h → t < p → row (number x y t) ≡ y
+  pub generation_of : (x y t : ℕ) → x < w → y < h → t < p → generation (number x y t) ≡ t
+  pub number_of : (n : ℕ) → number (column n) (row n) (generation n) ≡ n
 
-  generation_below : (cell : ℕ) → cell < w * h * p → cell / w / h < p
-  generation_below cell less = high_below p h w cell ph pw (subst (λ n. cell < n) (sym (last_first w h p)) less)
+-- from a number of one way to that of the same cell in another, and back
+module _ {w h p : ℕ} (A B : Numbering w h p) where
+  abbrev pub renumbered : ℕ → ℕ
+  renumbered n = B.number (A.column n) (A.row n) (A.generation n)
+
+  pub renumbered_below : (n : ℕ) → n < w * h * p → renumbered n < w * h * p
+  renumbered_below n less = B.number_below (A.column n) (A.row n) (A.generation n) (A.column_below n less) (A.row_below n less) (A.generation_below n less)
+
+  pub renumbered_back : (n : ℕ) → n < w * h * p → A.number (B.column (renumbered n)) (B.row (renumbered n)) (B.generation (renumbered n)) ≡ n
+  renumbered_back n less =
+      let x : ℕ = A.column n in
+      let y : ℕ = A.row n in
+      let t : ℕ = A.generation n in
+      let hx : x < w = A.column_below n less in
+      let hy : y < h = A.row_below n less in
+      let ht : t < p = A.generation_below n less in
+      (λ k. A.number (B.column_of x y t hx hy ht k) (B.row_of x y t hx hy ht k) (B.generation_of x y t hx hy ht k)) ∙ A.number_of n
+
+module _ (w h p : ℕ) (pw : 0 < w) (ph : 0 < h) (pp : 0 < p) where
+  -- the cells' own numbers
+  abbrev pub by_number : Numbering w h p
+  by_number = record {
+    number = λ x y t. joined h w t y x;
+    column = λ n. n % w;
+    row = λ n. n / w % h;
+    generation = λ n. n / w / h;
+    number_below = λ x y t hx hy ht. subst (λ n. joined h w t y x < n) (last_first w h p) (joined_below p h w t y x ht hy hx);
+    column_below = λ n less. mod_below n w pw;
+    row_below = λ n less. mod_below (n / w) h ph;
+    generation_below = λ n less. high_below p h w n ph pw (subst (λ m. n < m) (sym (last_first w h p)) less);
+    column_of = λ x y t hx hy ht. last_of h w t y x hx;
+    row_of = λ x y t hx hy ht. middle_of h w t y x hy hx;
+    generation_of = λ x y t hx hy ht. first_of h w t y x hy hx;
+    number_of = joined_digits h w;
+  }
 
   -- by row, column and generation
-  pub row_below : (rank : ℕ) → rank < w * h * p → rank / p / w < h
-  row_below rank less = high_below h w p rank pw pp (subst (λ n. rank < n) (sym (first_swapped w h p)) less)
-
-  pub rows_within : (rank : ℕ) → rank < w * h * p → joined h w (rank % p) (rank / p / w) (rank / p % w) < w * h * p
-  rows_within rank less = cell_below (rank / p % w) (rank / p / w) (rank % p) (mod_below (rank / p) w pw) (row_below rank less) (mod_below rank p pp)
-
-  pub rows_ranked : (cell : ℕ) → cell < w * h * p → joined w p (cell / w % h) (cell % w) (cell / w / h) < w * h * p
-  rows_ranked cell less =
-      let x : ℕ = cell % w in
-      let y : ℕ = cell / w % h in
-      let t : ℕ = cell / w / h in
-      subst (λ n. joined w p y x t < n) (first_swapped w h p) (joined_below h w p y x t (mod_below (cell / w) h ph) (mod_below cell w pw) (generation_below cell less))
-
-  pub rows_back : (rank : ℕ) → rank < w * h * p → let cell : ℕ = joined h w (rank % p) (rank / p / w) (rank / p % w) in joined w p (cell / w % h) (cell % w) (cell / w / h) ≡ rank
-  rows_back rank less =
-      let x : ℕ = rank / p % w in
-      let y : ℕ = rank / p / w in
-      let t : ℕ = rank % p in
-      let hx : x < w = mod_below (rank / p) w pw in
-      let hy : y < h = row_below rank less in
-      (λ k. joined w p (middle_of h w t y x hy hx k) (last_of h w t y x hx k) (first_of h w t y x hy hx k)) ∙ joined_digits w p rank
-
-  pub rows_forth : (cell : ℕ) → cell < w * h * p → let rank : ℕ = joined w p (cell / w % h) (cell % w) (cell / w / h) in joined h w (rank % p) (rank / p / w) (rank / p % w) ≡ cell
-  rows_forth cell less =
-      let x : ℕ = cell % w in
-      let y : ℕ = cell / w % h in
-      let t : ℕ = cell / w / h in
-      let hx : x < w = mod_below cell w pw in
-      let ht : t < p = generation_below cell less in
-      (λ k. joined h w (last_of w p y x t ht k) (first_of w p y x t hx ht k) (middle_of w p y x t hx ht k)) ∙ joined_digits h w cell
+  abbrev pub by_row : Numbering w h p
+  by_row = record {
+    number = λ x y t. joined w p y x t;
+    column = λ n. n / p % w;
+    row = λ n. n / p / w;
+    generation = λ n. n % p;
+    number_below = λ x y t hx hy ht. subst (λ n. joined w p y x t < n) (first_swapped w h p) (joined_below h w p y x t hy hx ht);
+    column_below = λ n less. mod_below (n / p) w pw;
+    row_below = λ n less. high_below h w p n pw pp (subst (λ m. n < m) (sym (first_swapped w h p)) less);
+    generation_below = λ n less. mod_below n p pp;
+    column_of = λ x y t hx hy ht. middle_of w p y x t hx ht;
+    row_of = λ x y t hx hy ht. first_of w p y x t hx ht;
+    generation_of = λ x y t hx hy ht. last_of w p y x t ht;
+    number_of = joined_digits w p;
+  }
 
   -- by column, row and generation
-  pub column_below : (rank : ℕ) → rank < w * h * p → rank / p / h < w
-  column_below rank less = high_below w h p rank ph pp less
+  abbrev pub by_column : Numbering w h p
+  by_column = record {
+    number = λ x y t. joined h p x y t;
+    column = λ n. n / p / h;
+    row = λ n. n / p % h;
+    generation = λ n. n % p;
+    number_below = λ x y t hx hy ht. joined_below w h p x y t hx hy ht;
+    column_below = λ n less. high_below w h p n ph pp less;
+    row_below = λ n less. mod_below (n / p) h ph;
+    generation_below = λ n less. mod_below n p pp;
+    column_of = λ x y t hx hy ht. first_of h p x y t hy ht;
+    row_of = λ x y t hx hy ht. middle_of h p x y t hy ht;
+    generation_of = λ x y t hx hy ht. last_of h p x y t ht;
+    number_of = joined_digits h p;
+  }
+
+  pub rows_within : (rank : ℕ) → rank < w * h * p → joined h w (rank % p) (rank / p / w) (rank / p % w) < w * h * p
+  rows_within = renumbered_below by_row by_number
+
+  pub rows_ranked : (cell : ℕ) → cell < w * h * p → joined w p (cell / w % h) (cell % w) (cell / w / h) < w * h * p
+  rows_ranked = renumbered_below by_number by_row
+
+  pub rows_back : (rank : ℕ) → rank < w * h * p → let cell : ℕ = joined h w (rank % p) (rank / p / w) (rank / p % w) in joined w p (cell / w % h) (cell % w) (cell / w / h) ≡ rank
+  rows_back = renumbered_back by_row by_number
+
+  pub rows_forth : (cell : ℕ) → cell < w * h * p → let rank : ℕ = joined w p (cell / w % h) (cell % w) (cell / w / h) in joined h w (rank % p) (rank / p / w) (rank / p % w) ≡ cell
+  rows_forth = renumbered_back by_number by_row
 
   pub columns_within : (rank : ℕ) → rank < w * h * p → joined h w (rank % p) (rank / p % h) (rank / p / h) < w * h * p
-  columns_within rank less = cell_below (rank / p / h) (rank / p % h) (rank % p) (column_below rank less) (mod_below (rank / p) h ph) (mod_below rank p pp)
+  columns_within = renumbered_below by_column by_number
 
   pub columns_ranked : (cell : ℕ) → cell < w * h * p → joined h p (cell % w) (cell / w % h) (cell / w / h) < w * h * p
-  columns_ranked cell less = joined_below w h p (cell % w) (cell / w % h) (cell / w / h) (mod_below cell w pw) (mod_below (cell / w) h ph) (generation_below cell less)
+  columns_ranked = renumbered_below by_number by_column
 
   pub columns_back : (rank : ℕ) → rank < w * h * p → let cell : ℕ = joined h w (rank % p) (rank / p % h) (rank / p / h) in joined h p (cell % w) (cell / w % h) (cell / w / h) ≡ rank
-  columns_back rank less =
-      let x : ℕ = rank / p / h in
-      let y : ℕ = rank / p % h in
-      let t : ℕ = rank % p in
-      let hx : x < w = column_below rank less in
-      let hy : y < h = mod_below (rank / p) h ph in
-      (λ k. joined h p (last_of h w t y x hx k) (middle_of h w t y x hy hx k) (first_of h w t y x hy hx k)) ∙ joined_digits h p rank
+  columns_back = renumbered_back by_column by_number
 
   pub columns_forth : (cell : ℕ) → cell < w * h * p → let rank : ℕ = joined h p (cell % w) (cell / w % h) (cell / w / h) in joined h w (rank % p) (rank / p % h) (rank / p / h) ≡ cell
-  columns_forth cell less =
-      let x : ℕ = cell % w in
-      let y : ℕ = cell / w % h in
-      let t : ℕ = cell / w / h in
-      let hy : y < h = mod_below (cell / w) h ph in
-      let ht : t < p = generation_below cell less in
-      (λ k. joined h w (last_of h p x y t ht k) (middle_of h p x y t hy ht k) (first_of h p x y t hy ht k)) ∙ joined_digits h w cell
+  columns_forth = renumbered_back by_number by_column
+
+-- the same over a frame, by what comes first
+pub places_within : (by_columns : Bool) (f : Frame) (rank : ℕ) → rank < cells f → places_cell by_columns f rank < cells f
+places_within true f = columns_within f.width f.height f.period f.wide f.tall f.lasting
+places_within false f = rows_within f.width f.height f.period f.wide f.tall f.lasting
+
+pub places_ranked : (by_columns : Bool) (f : Frame) (cell : ℕ) → cell < cells f → places_rank by_columns f cell < cells f
+places_ranked true f = columns_ranked f.width f.height f.period f.wide f.tall f.lasting
+places_ranked false f = rows_ranked f.width f.height f.period f.wide f.tall f.lasting
+
+pub places_back : (by_columns : Bool) (f : Frame) (rank : ℕ) → rank < cells f → places_rank by_columns f (places_cell by_columns f rank) ≡ rank
+places_back true f = columns_back f.width f.height f.period f.wide f.tall f.lasting
+places_back false f = rows_back f.width f.height f.period f.wide f.tall f.lasting
+
+pub places_forth : (by_columns : Bool) (f : Frame) (cell : ℕ) → cell < cells f → places_cell by_columns f (places_rank by_columns f cell) ≡ cell
+places_forth true f = columns_forth f.width f.height f.period f.wide f.tall f.lasting
+places_forth false f = rows_forth f.width f.height f.period f.wide f.tall f.lasting

@@ -21,12 +21,10 @@ impl Order for Generations {
     ghost forth = { Prim.search rules };
 
     fn cell_at(&self, frame: &Frame, rank: u32) -> u32 {
-        let cells = frame.cells();
-        if rank < cells { rank } else { cells }
+        rank.min(frame.cells())
     }
 
     fn rank_of(&self, frame: &Frame, cell: u32) -> u32 {
-        let cells = frame.cells();
-        if cell < cells { cell } else { cells }
+        cell.min(frame.cells())
     }
 }

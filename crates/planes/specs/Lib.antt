@@ -1,3 +1,4 @@
+pub mod Edges
 pub mod Faults
 pub mod Layers
 pub mod Looks

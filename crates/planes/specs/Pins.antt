@@ -1,6 +1,7 @@
 -- What the fixed layer asks.
 use Rattle.std.specs.Prelude.{ℕ, Bool, cond, List, [], ◌∷◌, ◌++◌, length, Some, None, Ok, Err, Option, Result, ◌==◌, nat_lt}
-use Rattle.planes.specs.declared.fixed.Pin.{Pin}
+use Rattle.std.specs.List.{find}
+use Rattle.planes.specs.declared.pins.Pin.{Pin}
 use Rattle.planes.specs.declared.tie.Tie.{Tie}
 use Rattle.planes.specs.declared.tie.Tie.TheVariants.{Free, Off, On, Same}
 use Rattle.frames.specs.declared.frame.Frame.{Frame}
@@ -9,10 +10,14 @@ use Rattle.planes.specs.declared.fault.FixFault.{FixFault}
 use Rattle.planes.specs.declared.fault.FixFault.TheVariants.{NoCell, Held, Full}
 use Rattle.planes.specs.Layers.{must}
 
+-- what a pin asks; nothing where there is none
+abbrev pub asked_by : Option Pin → Tie
+asked_by None = Free
+asked_by (Some p) = must p.on
+
 -- what the first pin of a cell asks of it; nothing where it has none
 abbrev pub pinned : List Pin → ℕ → Tie
-pinned [] cell = Free
-pinned (p ∷ ps) cell = cond (p.cell == cell) (must p.on) (pinned ps cell)
+pinned ps cell = asked_by (find (λ p. p.cell == cell) ps)
 
 -- the same over a frame: nothing is asked where there is no such cell
 abbrev pub own_tie : Frame → List Pin → ℕ → Tie

@@ -1,17 +1,47 @@
-ghost use Rattle.std.specs.Prelude.{◌≤◌};
+ghost use Rattle.std.specs.Prelude.{◌≡◌, [], OnErr};
+ghost use Rattle.planes.specs.Pins.{holding, fixed_cell};
 
-// A cell that has to be on or off, by its number.
-#[derive(Clone, Copy)]
-pub struct Pin {
-    pub cell: u32,
-    pub on: bool,
-}
+use crate::fault::FixFault;
+use crate::layer::Layer;
+use crate::pins::{Pin, Pins};
+use crate::space::Space;
+use crate::tie::Tie;
+use arrayvec::ArrayVec;
+use frames::Cell;
 
 // A layer that fixes up to 64 cells, at first none.
-#[derive(Drop)]
-pub struct Fixed<S> {
-    pub(crate) below: S,
-    pub(crate) pins: [Pin; 64],
-    pub(crate) held: usize,
-    ghost few: { held ≤ 64 },
+pub type Fixed<S> = Layer<S, Pins>;
+
+impl<S: Space> Layer<S, Pins> {
+    // The layer over `below` that fixes nothing yet.
+    pub fn new(below: S) -> Fixed<S>
+        ensures below { result.below ≡ below }
+        ensures empty { result.own.held.items ≡ [] }
+    {
+        Layer {
+            below,
+            own: Pins {
+                held: ArrayVec::new(),
+            },
+        }
+    }
+
+    // Fixes one cell more.
+    pub fn fix(&mut self, x: u32, y: u32, t: u32, on: bool) -> Result<(), FixFault>
+        ensures pins { holding self.new.own.held.items result ≡ fixed_cell (S.Plane.means self.old.below).frame self.old.own.held.items x y t on }
+        ensures below { self.new.below ≡ self.old.below }
+        ensures refused { OnErr result (self.new ≡ self.old) }
+    {
+        let frame = self.below.frame();
+        let Some(cell) = frame.number_of(Cell { x, y, t }) else {
+            return Err(FixFault::NoCell);
+        };
+        if self.own.tie_of(cell) != Tie::Free {
+            return Err(FixFault::Held);
+        }
+        self.own
+            .held
+            .try_push(Pin { cell, on })
+            .map_err(|_| FixFault::Full)
+    }
 }

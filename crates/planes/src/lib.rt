@@ -2,27 +2,34 @@
 // A plane says where a look falls; a space adds rows of ties; a layer is a space over another.
 #![tactic(auto)]
 
-mod cylinder;
+mod axis;
 mod fault;
 mod fixed;
-mod fixing;
+mod laws;
+mod layer;
 mod mirror;
 mod neighbours;
+mod pins;
 mod place;
-mod plain;
 mod plane;
+mod row;
+mod sheet;
 mod space;
+mod surface;
 mod tie;
-mod torus;
 
-pub use cylinder::Cylinder;
+pub use axis::{Axis, Bounded, Edge, Round};
 pub use fault::FixFault;
-pub use fixed::{Fixed, Pin};
-pub use mirror::Mirror;
+pub use fixed::Fixed;
+pub use laws::planes_stand;
+pub use layer::Layer;
+pub use mirror::{Mirror, MirrorKind};
 pub use neighbours::{NEIGHBOURS, Offset};
+pub use pins::{Pin, Pins};
 pub use place::Place;
-pub use plain::Plain;
 pub use plane::Plane;
+pub use row::Row;
+pub use sheet::{Cylinder, Plain, Sheet, Torus};
 pub use space::Space;
+pub use surface::Surface;
 pub use tie::Tie;
-pub use torus::Torus;

@@ -1,4 +1,5 @@
 ghost use Rattle.problem.specs.Faults.{cause_number};
+ghost use Rattle.problem.specs.declared.fault.Cause.TheVariants.{Frame, Rule, Fix};
 ghost use Rattle.std.specs.Prelude.{◌≡◌};
 
 use frames::FrameFault;
@@ -22,6 +23,30 @@ pub enum Cause {
 pub struct ProblemFault {
     pub line: u32,
     pub cause: Cause,
+}
+
+impl From<FrameFault> for Cause {
+    ghost from_gives = { λ fault cause. cause ≡ Frame fault };
+
+    fn from(fault: FrameFault) -> Cause {
+        Cause::Frame(fault)
+    }
+}
+
+impl From<RuleFault> for Cause {
+    ghost from_gives = { λ fault cause. cause ≡ Rule fault };
+
+    fn from(fault: RuleFault) -> Cause {
+        Cause::Rule(fault)
+    }
+}
+
+impl From<FixFault> for Cause {
+    ghost from_gives = { λ fault cause. cause ≡ Fix fault };
+
+    fn from(fault: FixFault) -> Cause {
+        Cause::Fix(fault)
+    }
 }
 
 impl Cause {

@@ -1,34 +1,19 @@
-ghost use Rattle.std.specs.Prelude.{◌≤◌, length, IfErr, MatchResult};
+ghost use Rattle.std.specs.Prelude.{◌≤◌, IfErr, MatchResult};
 ghost use Rattle.problem.specs.Faults.{OfLine};
 
 use crate::fault::Cause;
-use lines::{after, is_blank};
+use lines::is_blank;
 use numbers::read_decimal;
-
-// Where the word at the front of a line ends: at the first blank, or where the line does.
-fn word_end(line: &[u8]) -> usize
-    ensures { result ≤ length line.now }
-{
-    let mut end = 0;
-    while end < line.len() && !is_blank(line[end]) {
-        end += 1;
-    }
-    end
-}
 
 // All that follows the line's key and one blank. A missing line has no key, and one that ends with
 // its key says nothing.
 pub(crate) fn value_of<'a>(line: Option<&'a [u8]>, key: &[u8]) -> Result<&'a [u8], Cause>
     ensures { IfErr result OfLine }
 {
-    let Some(line) = line else {
-        return Err(Cause::Form);
-    };
-    let end = word_end(line);
-    if end == line.len() || &line[0..end] != key {
-        return Err(Cause::Form);
+    match line.and_then(|line| line.strip_prefix(key)) {
+        Some([blank, value @ ..]) if is_blank(*blank) => Ok(value),
+        _ => Err(Cause::Form),
     }
-    Ok(&line[end + 1..])
 }
 
 // A number from 0 to 9,999, without leading zeros.
@@ -54,39 +39,35 @@ pub(crate) fn signed(word: &[u8]) -> Result<i32, Cause>
     }
 }
 
-// Whether a cell is to be on.
-pub(crate) fn switch(word: &[u8]) -> Result<bool, Cause>
+// The numbers of a line, parted by single blanks, where there are N.
+pub(crate) fn numbers<const N: usize>(text: &[u8]) -> Result<[i32; N], Cause>
     ensures { IfErr result OfLine }
 {
-    match number(word)? {
+    let mut words = text.split(|byte| is_blank(*byte));
+    let mut numbers = [0; N];
+    for number in &mut numbers {
+        *number = signed(words.next().ok_or(Cause::Form)?)?;
+    }
+    match words.next() {
+        None => Ok(numbers),
+        Some(_) => Err(Cause::Form),
+    }
+}
+
+// One of those that may not be below 0.
+pub(crate) fn unsigned(n: i32) -> Result<u32, Cause>
+    ensures { IfErr result OfLine }
+{
+    u32::try_from(n).map_err(|_| Cause::Form)
+}
+
+// Whether a cell is to be on.
+pub(crate) fn switch(n: i32) -> Result<bool, Cause>
+    ensures { IfErr result OfLine }
+{
+    match n {
         0 => Ok(false),
         1 => Ok(true),
         _ => Err(Cause::Form),
-    }
-}
-
-// Goes through words that single blanks part; past the last they are empty.
-#[derive(Clone, Copy)]
-pub(crate) struct Words<'a> {
-    pub rest: &'a [u8],
-}
-
-impl<'a> Words<'a> {
-    pub(crate) fn next_word(&mut self) -> &'a [u8] {
-        let rest = self.rest;
-        let end = word_end(rest);
-        self.rest = after(rest, end);
-        &rest[0..end]
-    }
-
-    // No word may be left.
-    pub(crate) fn end(self) -> Result<(), Cause>
-        ensures { IfErr result OfLine }
-    {
-        if self.rest.is_empty() {
-            Ok(())
-        } else {
-            Err(Cause::Form)
-        }
     }
 }

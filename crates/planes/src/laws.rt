@@ -1,0 +1,15 @@
+ghost use Rattle.planes.specs.Looks.{plain, torus, cylinder};
+ghost use Rattle.planes.specs.declared.sheet.Sheet.{Sheet};
+ghost use Rattle.planes.specs.declared.axis.Bounded.{Bounded};
+ghost use Rattle.planes.specs.declared.axis.Round.{Round};
+ghost use Rattle.std.specs.Prelude.{◌≡◌};
+
+use crate::plane::Plane;
+use crate::sheet::{Cylinder, Plain, Torus};
+
+// Each of the three planes means what its name says, over any frame.
+pub fn planes_stand()
+    ensures plain { (p : Sheet Bounded Bounded) → ⟦<Plain as Plane>⟧.means p ≡ plain p.frame }
+    ensures torus { (p : Sheet Round Round) → ⟦<Torus as Plane>⟧.means p ≡ torus p.frame }
+    ensures cylinder { (p : Sheet Round Bounded) → ⟦<Cylinder as Plane>⟧.means p ≡ cylinder p.frame }
+{}

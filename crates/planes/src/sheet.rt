@@ -1,0 +1,73 @@
+ghost use Rattle.planes.specs.Looks.{sheet, plain, torus, cylinder, across_in_box};
+ghost use Rattle.planes.specs.declared.tie.Tie.TheVariants.{Free};
+ghost use Rattle.std.specs.Prelude.{◌≡◌};
+ghost use Rattle.std.proofs.Common.{rules};
+
+use crate::axis::{Axis, Bounded, Round};
+use crate::place::Place;
+use crate::plane::Plane;
+use crate::space::Space;
+use crate::tie::Tie;
+use frames::Frame;
+
+// A box whose columns and rows lie on an axis each.
+#[derive(Clone, Copy)]
+pub struct Sheet<X, Y> {
+    pub frame: Frame,
+    pub columns: X,
+    pub rows: Y,
+}
+
+// Nothing lies outside the box.
+pub type Plain = Sheet<Bounded, Bounded>;
+
+// Columns and rows go round: the far edge meets the near one.
+pub type Torus = Sheet<Round, Round>;
+
+// Columns go round; nothing lies above or below the box.
+pub type Cylinder = Sheet<Round, Bounded>;
+
+impl<X: Axis + Default, Y: Axis + Default> Sheet<X, Y> {
+    pub fn new(frame: Frame) -> Sheet<X, Y>
+        ensures { result.frame ≡ frame }
+    {
+        let (columns, rows) = (X::default(), Y::default());
+        Sheet {
+            frame,
+            columns,
+            rows,
+        }
+    }
+}
+
+impl<X: Axis, Y: Axis> Plane for Sheet<X, Y> {
+    ghost means = { λ s. sheet s.frame (X.place s.columns) (Y.place s.rows) };
+
+    ghost inside = { λ s x y. across_in_box s.frame (X.place s.columns s.frame.width x) (Y.place s.rows s.frame.height y) (X.below s.columns s.frame.width x s.frame.wide) (Y.below s.rows s.frame.height y s.frame.tall) };
+
+    ghost own = { λ s x y h k. Prim.search rules };
+
+    fn frame(&self) -> Frame {
+        self.frame
+    }
+
+    fn look(&self, x: i32, y: i32) -> Option<Place> {
+        let x = self.columns.place(x, self.frame.width())?;
+        let y = self.rows.place(y, self.frame.height())?;
+        Some(Place { x, y })
+    }
+}
+
+impl<X: Axis, Y: Axis> Space for Sheet<X, Y> {
+    ghost count = { λ s. 0 };
+
+    ghost tied = { λ s row cell. Free };
+
+    fn rows(&self) -> u32 {
+        0
+    }
+
+    fn tie(&self, row: u32, cell: u32) -> Tie {
+        Tie::Free
+    }
+}

@@ -1,0 +1,45 @@
+ghost use Rattle.planes.specs.Looks.{plain, torus, cylinder};
+ghost use Rattle.std.specs.Prelude.{◌≡◌};
+
+use crate::axis::Edge;
+use crate::plane::Plane;
+use crate::sheet::Sheet;
+use frames::Frame;
+
+// One of the supplied planes, chosen at run time.
+pub type Surface = Sheet<Edge, Edge>;
+
+impl Sheet<Edge, Edge> {
+    pub fn plain(frame: Frame) -> Surface
+        ensures { ⟦<Surface as Plane>⟧.means result ≡ plain frame }
+    {
+        let (columns, rows) = (Edge::Bounded, Edge::Bounded);
+        Sheet {
+            frame,
+            columns,
+            rows,
+        }
+    }
+
+    pub fn torus(frame: Frame) -> Surface
+        ensures { ⟦<Surface as Plane>⟧.means result ≡ torus frame }
+    {
+        let (columns, rows) = (Edge::Round, Edge::Round);
+        Sheet {
+            frame,
+            columns,
+            rows,
+        }
+    }
+
+    pub fn cylinder(frame: Frame) -> Surface
+        ensures { ⟦<Surface as Plane>⟧.means result ≡ cylinder frame }
+    {
+        let (columns, rows) = (Edge::Round, Edge::Bounded);
+        Sheet {
+            frame,
+            columns,
+            rows,
+        }
+    }
+}
