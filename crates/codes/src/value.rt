@@ -1,5 +1,6 @@
 ghost use Rattle.std.specs.Prelude.{◌≡◌};
 ghost use Rattle.codes.specs.Values.{NumberNames, number_of};
+ghost use Rattle.codes.specs.Laws.{known};
 
 // What is known of a cell.
 #[derive(Clone, Copy, PartialEq, Eq, Debug)]
@@ -38,5 +39,14 @@ impl TryFrom<usize> for Value {
             2 => Ok(Value::Unknown),
             _ => Err(UnknownNumber(number)),
         }
+    }
+}
+
+// The value of a cell of which it is known whether it is on.
+impl From<bool> for Value {
+    ghost from_gives = { λ on value. value ≡ known on };
+
+    fn from(on: bool) -> Value {
+        if on { Value::On } else { Value::Off }
     }
 }

@@ -1,4 +1,4 @@
-ghost use Rattle.std.specs.Prelude.{◌≡◌, ℕ, ◌+◌, ◌*◌, ◌<◌, ◌≤◌, length, pos, negsuc, ◌≤ℤ◌, vec_len};
+ghost use Rattle.std.specs.Prelude.{◌≡◌, ℕ, ◌+◌, ◌*◌, ◌<◌, ◌≤◌, vec_len};
 ghost use Rattle.gathering.specs.Bounds.{Names};
 
 use crate::looks::Looks;
@@ -6,6 +6,21 @@ use classes::Classes;
 use frames::{Cell, Frame};
 use planes::{NEIGHBOURS, Place};
 use systems::Instance;
+
+// How far out of the box instances reach.
+const REACH: u32 = 9;
+
+// The first column and row of instances, counted from the corner of the margin.
+const FIRST: u32 = 8;
+
+// A place in or around the box that is looked at in one generation: its column and row are counted
+// from the corner of the margin.
+#[derive(Clone, Copy)]
+pub(crate) struct Spot {
+    column: u32,
+    row: u32,
+    t: u32,
+}
 
 // What instances are made from: the frame, its looks and its classes.
 #[derive(Drop)]
@@ -15,65 +30,76 @@ pub(crate) struct Ground<'a> {
     pub(crate) classes: &'a Classes,
 }
 
-// A count moved by up to eight either way.
-fn moved(count: u32, by: i32) -> u32
-    requires { (8 ≤ count) × ((count ≤ 66) × ((negsuc 7 ≤ℤ by) × (by ≤ℤ pos 8))) }
-{
-    (count as i32 + by) as u32
+impl Spot {
+    // The spot so far to the right and down, in the same generation. Further out than the margin
+    // there is nothing to look at, so that it may wrap.
+    fn moved(self, dx: i32, dy: i32) -> Spot {
+        Spot {
+            column: self.column.wrapping_add_signed(dx),
+            row: self.row.wrapping_add_signed(dy),
+            t: self.t,
+        }
+    }
 }
 
 impl Ground<'_> {
-    // The class that stands for nothing: the one past the last.
-    fn nothing(&self) -> u16
-        ensures { result ≡ vec_len self.now.classes.now.lowest }
+    // How many spots have an instance: those in the box and within reach of it.
+    pub(crate) fn spots(&self) -> u32
+        ensures { result ≤ 40000 }
     {
-        self.classes.count() as u16
+        let columns = self.frame.width() + 2 * REACH;
+        let rows = self.frame.height() + 2 * REACH;
+        columns * rows * self.frame.period()
     }
 
-    // The class of the cell that is looked at from a column and a row in a generation.
-    fn class_at(&self, column: u32, row: u32, t: u32) -> u16
+    // The spot of a number, by generation, row and column.
+    pub(crate) fn spot(&self, number: u32) -> Spot {
+        let columns = self.frame.width() + 2 * REACH;
+        let rows = self.frame.height() + 2 * REACH;
+        Spot {
+            column: number % columns + FIRST,
+            row: number / columns % rows + FIRST,
+            t: number / columns / rows,
+        }
+    }
+
+    // The class of the cell that is looked at; where there is none, the class past the last, which
+    // stands for nothing.
+    fn class_at(&self, spot: Spot) -> u16
         ensures { result ≤ vec_len self.now.classes.now.lowest }
     {
-        let Some(Place { x, y }) = self.looks.at(column, row) else {
-            return self.nothing();
-        };
-        let Some(cell) = self.frame.number_of(Cell { x, y, t }) else {
-            return self.nothing();
-        };
-        match self.classes.class_of(cell as usize) {
-            Some(class) => class,
-            None => self.nothing(),
-        }
+        self.looks
+            .at(spot.column, spot.row)
+            .and_then(|Place { x, y }| self.frame.number_of(Cell { x, y, t: spot.t }))
+            .and_then(|cell| self.classes.class_of(cell as usize))
+            .unwrap_or(self.classes.count() as u16)
     }
 
     // The class of the successor: in the next generation, or after the last in the first, with the
     // drift taken away.
-    fn successor_at(&self, column: u32, row: u32, t: u32) -> u16
-        requires { (8 ≤ column) × ((column ≤ 66) × ((8 ≤ row) × ((row ≤ 66) × (t < 16)))) }
+    fn successor_at(&self, spot: Spot) -> u16
         ensures { result ≤ vec_len self.now.classes.now.lowest }
     {
-        if t + 1 < self.frame.period() {
-            return self.class_at(column, row, t + 1);
+        let last = self.frame.period() - 1;
+        if spot.t < last {
+            self.class_at(Spot {
+                t: spot.t + 1,
+                ..spot
+            })
+        } else {
+            let back = spot.moved(-self.frame.dx(), -self.frame.dy());
+            self.class_at(Spot { t: 0, ..back })
         }
-        let column = moved(column, -self.frame.dx());
-        let row = moved(row, -self.frame.dy());
-        self.class_at(column, row, 0)
     }
 
-    // The instance at a column and a row of a generation.
-    pub(crate) fn instance_at(&self, column: u32, row: u32, t: u32) -> Instance
-        requires { (8 ≤ column) × ((column ≤ 66) × ((8 ≤ row) × ((row ≤ 66) × (t < 16)))) }
+    // The instance of a spot.
+    pub(crate) fn instance_at(&self, spot: Spot) -> Instance
         ensures { Names (vec_len self.now.classes.now.lowest + 1) result }
     {
-        let mut neighbours = [0u16; 8];
-        for i in 0..8usize {
-            let offset = NEIGHBOURS[i];
-            neighbours[i] = self.class_at(moved(column, offset.dx), moved(row, offset.dy), t);
-        }
         Instance {
-            centre: self.class_at(column, row, t),
-            successor: self.successor_at(column, row, t),
-            neighbours,
+            centre: self.class_at(spot),
+            successor: self.successor_at(spot),
+            neighbours: NEIGHBOURS.map(|by| self.class_at(spot.moved(by.dx, by.dy))),
         }
     }
 }

@@ -1,57 +1,60 @@
-ghost use Rattle.std.specs.Prelude.{◌≡◌, ℕ, ◌+◌, ◌≤◌, IfOk, vec_len};
+ghost use Rattle.std.specs.Prelude.{◌≡◌, ℕ, ◌+◌, ◌≤◌, IfOk, length, vec_len};
+ghost use Rattle.gathering.specs.Bounds.{EachNames, Under};
+ghost use Rattle.gathering.specs.Systems.{class_count, instances_of, touching_of};
 
-use crate::building::Gathered;
+use crate::building::gathered;
 use crate::ground::Ground;
 use crate::looks::Looks;
 use crate::system::System;
-use crate::touching::Touching;
+use crate::touching::touching_each;
 use classes::Classes;
 use planes::Plane;
 use std::alloc::{AllocError, Global};
-
-// The instances of a plane over its classes.
-fn gathered<P: Plane>(heap: Global, plane: &P, classes: &Classes) -> Result<Gathered, AllocError>
-    ensures { IfOk result (λ g. (g.classes ≡ vec_len classes.now.lowest) × (vec_len g.instances ≤ 40000)) }
-{
-    let looks = Looks::of(heap, plane)?;
-    let frame = plane.frame();
-    let ground = Ground {
-        frame,
-        looks: &looks,
-        classes,
-    };
-    let mut gathered = Gathered::new(heap, classes.count())?;
-    gathered.keep_all(&ground)?;
-    Ok(gathered)
-}
+use systems::Instance;
 
 impl System {
     // The system of a plane and its classes.
     pub fn of<P: Plane>(heap: Global, plane: &P, classes: &Classes) -> Result<System, AllocError>
-        ensures { IfOk result (λ s. s.classes ≡ vec_len classes.now.lowest) }
+        ensures { IfOk result (λ s. class_count s ≡ vec_len classes.now.lowest) }
     {
-        let Gathered {
+        let looks = Looks::of(heap, plane)?;
+        let ground = Ground {
+            frame: plane.frame(),
+            looks: &looks,
             classes,
-            instances,
-            slots: _,
-        } = gathered(heap, plane, classes)?;
-        let Touching {
-            starts,
-            list,
-            instances: _,
-        } = Touching::of(heap, instances.as_slice(), classes)?;
+        };
+        let instances = gathered(heap, &ground)?;
+        let touching = touching_each(heap, instances.as_slice(), classes.count())?;
         Ok(System {
-            classes,
             instances,
-            starts,
-            touching: list,
+            touching,
         })
     }
 
-    // How many classes there are.
+    // How many classes there are; the one past the last is nothing.
     pub fn classes(&self) -> usize
-        ensures { (result ≡ self.now.classes) × (result ≤ 4096) }
+        ensures value { result ≡ class_count self.now }
+        ensures few { result ≤ 4096 }
     {
-        self.classes
+        self.touching.len()
+    }
+
+    // Every instance.
+    pub fn instances(&self) -> &[Instance]
+        ensures value { result.now ≡ instances_of self.now }
+        ensures named { EachNames (class_count self.now + 1) result.now }
+    {
+        self.instances.as_slice()
+    }
+
+    // The numbers of the instances that touch a class; none touch nothing.
+    pub fn touching(&self, class: u16) -> &[u16]
+        ensures value { result.now ≡ touching_of self.now class }
+        ensures within { Under (length (instances_of self.now)) result.now }
+    {
+        match self.touching.get(class as usize) {
+            Some(numbers) => numbers.as_slice(),
+            None => &[],
+        }
     }
 }

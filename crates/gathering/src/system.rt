@@ -1,5 +1,5 @@
 ghost use Rattle.std.specs.Prelude.{◌≡◌, ℕ, ◌+◌, ◌<◌, ◌≤◌, vec_len};
-ghost use Rattle.gathering.specs.Bounds.{CentresUnder, SuccessorsUnder, NeighboursUnder, AtMost, Under};
+ghost use Rattle.gathering.specs.Bounds.{EachNames, EachUnder};
 
 use systems::Instance;
 
@@ -7,17 +7,10 @@ use systems::Instance;
 // that touch it. Nothing of it changes once it is made.
 #[derive(Drop)]
 pub struct System {
-    // how many classes there are; the one past the last is nothing
-    pub classes: usize,
-    pub instances: Vec<Instance>,
-    // the instances that touch class c are touching[starts[c]..starts[c + 1]]
-    pub starts: Vec<u32>,
-    pub touching: Vec<u16>,
-    ghost few: { classes ≤ 4096 },
-    ghost centred: { CentresUnder (classes + 1) instances.items },
-    ghost followed: { SuccessorsUnder (classes + 1) instances.items },
-    ghost surrounded: { NeighboursUnder (classes + 1) instances.items },
-    ghost begun: { vec_len starts ≡ classes + 1 },
-    ghost ended: { AtMost (vec_len touching) starts.items },
-    ghost touched: { Under (vec_len instances) touching.items },
+    pub(crate) instances: Vec<Instance>,
+    // by class the numbers of the instances that touch it; the class past the last is nothing
+    pub(crate) touching: Vec<Vec<u16>>,
+    ghost few: { vec_len touching ≤ 4096 },
+    ghost named: { EachNames (vec_len touching + 1) instances.items },
+    ghost within: { EachUnder (vec_len instances) touching.items },
 }

@@ -18,9 +18,7 @@ impl Answer {
         ensures { result ≡ steps_of self.now }
     {
         match self {
-            Answer::Found(steps) => *steps,
-            Answer::Done(steps) => *steps,
-            Answer::Paused(steps) => *steps,
+            Answer::Found(steps) | Answer::Done(steps) | Answer::Paused(steps) => *steps,
         }
     }
 }

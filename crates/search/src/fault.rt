@@ -1,11 +1,15 @@
 ghost use Rattle.search.specs.Faults.{open_number, go_number, write_number, tally_number};
+ghost use Rattle.search.specs.declared.fault.OpenFault.TheVariants.{Memory};
+ghost use Rattle.search.specs.declared.fault.WriteFault.TheVariants.{Page};
 ghost use Rattle.std.specs.Prelude.{◌≡◌};
 
 use std::alloc::AllocError;
+use std::error::Error;
+use std::fmt;
 use texts::PageFault;
 
 // Why a search is not opened.
-#[derive(Clone, Copy)]
+#[derive(Clone, Copy, PartialEq, Eq, Debug)]
 pub enum OpenFault {
     // it is opened already
     NotBlank,
@@ -29,13 +33,27 @@ impl OpenFault {
 }
 
 impl From<AllocError> for OpenFault {
+    ghost from_gives = { λ _ fault. fault ≡ Memory };
+
     fn from(_e: AllocError) -> OpenFault {
         OpenFault::Memory
     }
 }
 
+// What a program says of it, for want of memory or else for a caller's mistake.
+impl fmt::Display for OpenFault {
+    fn fmt<W: fmt::Write>(&self, f: &mut fmt::Formatter<W>) -> fmt::Result {
+        match self {
+            OpenFault::NotBlank | OpenFault::TieRows => write!(f, "the search was not opened"),
+            OpenFault::Memory => write!(f, "no memory"),
+        }
+    }
+}
+
+impl Error for OpenFault {}
+
 // Why a search does not go.
-#[derive(Clone, Copy)]
+#[derive(Clone, Copy, PartialEq, Eq, Debug)]
 pub enum GoFault {
     // it is blank
     Blank,
@@ -55,7 +73,7 @@ impl GoFault {
 }
 
 // Why no find is written.
-#[derive(Clone, Copy)]
+#[derive(Clone, Copy, PartialEq, Eq, Debug)]
 pub enum WriteFault {
     // the search is blank
     Blank,
@@ -77,8 +95,16 @@ impl WriteFault {
     }
 }
 
+impl From<PageFault> for WriteFault {
+    ghost from_gives = { λ page fault. fault ≡ Page page };
+
+    fn from(page: PageFault) -> WriteFault {
+        WriteFault::Page(page)
+    }
+}
+
 // Why there is no tally.
-#[derive(Clone, Copy)]
+#[derive(Clone, Copy, PartialEq, Eq, Debug)]
 pub enum TallyFault {
     // the search is blank
     Blank,

@@ -8,12 +8,7 @@ use crate::standing::Standing;
 impl Record {
     // Whether the search has to turn back: on a contradiction or a told find.
     fn turns_back(&self) -> bool {
-        match self.standing {
-            Standing::Contradiction => true,
-            Standing::Told => true,
-            Standing::Find => false,
-            Standing::Choice(_) => false,
-        }
+        matches!(self.standing, Standing::Contradiction | Standing::Told)
     }
 
     // The answer that is due before another step: found at an untold find, which is told by this;
@@ -44,9 +39,6 @@ impl Record {
             }
             self.step();
         }
-        match self.due(steps) {
-            Some(answer) => answer,
-            None => Answer::Paused(steps),
-        }
+        self.due(steps).unwrap_or(Answer::Paused(steps))
     }
 }

@@ -18,14 +18,9 @@ fn ranked_classes<O: Order>(
     frame: &Frame,
     classes: &Classes,
 ) -> Result<Vec<u16>, AllocError> {
-    let mut ranks = Vec::new(heap);
-    for rank in 0..frame.cells() {
-        let cell = order.cell_at(frame, rank);
-        if let Some(class) = classes.class_of(cell as usize) {
-            ranks.push(class)?;
-        }
-    }
-    Ok(ranks)
+    (0..frame.cells())
+        .filter_map(|rank| classes.class_of(order.cell_at(frame, rank) as usize))
+        .collect(heap)
 }
 
 impl Record {
@@ -63,10 +58,8 @@ impl Record {
     fn settle_first(&mut self, torn: bool)
         requires { vec_len self.old.decisions ≡ 0 }
     {
-        if torn || !self.board.settle_all() {
-            return;
+        if !torn && self.board.settle_all().is_ok() {
+            self.standing = self.settle(0);
         }
-        let standing = self.settle(0);
-        self.standing = standing;
     }
 }

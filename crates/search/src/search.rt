@@ -50,15 +50,13 @@ impl Search {
     pub fn go(&mut self, steps: u32) -> Result<Answer, GoFault>
         ensures steps { MatchResult result (λ a. steps_of a ≤ steps) (λ _. self.new ≡ self.old) }
     {
-        match &mut self.record {
-            None => Err(GoFault::Blank),
-            Some(record) => {
-                if steps < 1 || steps > 1_000_000 {
-                    return Err(GoFault::Steps);
-                }
-                Ok(record.go(steps))
-            }
+        let Some(record) = &mut self.record else {
+            return Err(GoFault::Blank);
+        };
+        if !(1..=1_000_000).contains(&steps) {
+            return Err(GoFault::Steps);
         }
+        Ok(record.go(steps))
     }
 
     // Writes the text of the find's first generation into the page from place `at`; answers the
@@ -66,22 +64,16 @@ impl Search {
     pub fn write(&self, page: &mut [u8], at: usize) -> Result<usize, WriteFault>
         ensures { MatchResult result (λ _. self.now.record ≢ None) (λ _. page.new ≡ page.old) }
     {
-        match &self.record {
-            None => Err(WriteFault::Blank),
-            Some(record) => {
-                if !record.found {
-                    return Err(WriteFault::NoFind);
-                }
-                record.write(page, at)
-            }
+        let record = self.record.as_ref().ok_or(WriteFault::Blank)?;
+        if !record.found {
+            return Err(WriteFault::NoFind);
         }
+        record.write(page, at)
     }
 
     // How many finds were told, up to 2^64 - 1.
     pub fn tally(&self) -> Result<u64, TallyFault> {
-        match &self.record {
-            None => Err(TallyFault::Blank),
-            Some(record) => Ok(record.tally),
-        }
+        let record = self.record.as_ref().ok_or(TallyFault::Blank)?;
+        Ok(record.tally)
     }
 }

@@ -1,5 +1,5 @@
 // How a settled search stands.
-#[derive(Clone, Copy)]
+#[derive(Clone, Copy, PartialEq, Eq, Debug)]
 pub enum Standing {
     // there is a contradiction
     Contradiction,
@@ -12,7 +12,7 @@ pub enum Standing {
 }
 
 // A decision: which rank it was chosen for, whether it is on now, and how long the trail was before.
-#[derive(Clone, Copy)]
+#[derive(Clone, Copy, PartialEq, Eq, Debug)]
 pub struct Decision {
     pub rank: usize,
     pub on: bool,

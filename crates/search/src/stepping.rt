@@ -11,13 +11,12 @@ impl Record {
     fn next_unknown(&self, from: usize) -> Option<usize>
         ensures { IfSome result (λ rank. (from ≤ rank) × (rank < vec_len self.now.ranks)) }
     {
-        for rank in from..self.ranks.len() {
-            let class = self.ranks[rank];
-            if let Value::Unknown = self.board.value(class) {
-                return Some(rank);
-            }
-        }
-        None
+        let at = self
+            .ranks
+            .get(from..)?
+            .iter()
+            .position(|class| matches!(self.board.value(*class), Value::Unknown))?;
+        Some(from + at)
     }
 
     // Settles, and answers how the search then stands; every rank below `from` is known.
@@ -25,7 +24,7 @@ impl Record {
         ensures choice { ChoiceFrom from (vec_len self.old.ranks) result }
         ensures same { OnlyBoard self.old self.new }
     {
-        if !self.board.settle() {
+        if self.board.settle().is_err() {
             return Standing::Contradiction;
         }
         match self.next_unknown(from) {
@@ -38,12 +37,7 @@ impl Record {
     pub(crate) fn last_off(&self) -> Option<usize>
         ensures { IfSome result (λ at. at < vec_len self.now.decisions) }
     {
-        for at in (0..self.decisions.len()).rev() {
-            if !self.decisions[at].on {
-                return Some(at);
-            }
-        }
-        None
+        self.decisions.iter().rposition(|decision| !decision.on)
     }
 
     // A standing decision.
@@ -55,19 +49,28 @@ impl Record {
         self.decisions[at]
     }
 
+    // Decides for the class of a rank, and settles.
+    fn decide(&mut self, decision: Decision)
+        requires inside { decision.rank < vec_len self.old.ranks }
+        requires deep { vec_len self.old.decisions ≤ decision.rank }
+    {
+        self.board.decide(self.ranks[decision.rank], decision.on);
+        let standing = self.settle(decision.rank + 1);
+        self.decisions.push_reserved(decision);
+        self.standing = standing;
+    }
+
     // A choice: decides off for the class of the lowest-ranked unknown cell.
     fn choose(&mut self, rank: usize)
-        requires { (rank < vec_len self.old.ranks) × (vec_len self.old.decisions ≤ rank) }
+        requires inside { rank < vec_len self.old.ranks }
+        requires deep { vec_len self.old.decisions ≤ rank }
     {
         let mark = self.board.mark();
-        self.board.decide(self.ranks[rank], false);
-        let standing = self.settle(rank + 1);
-        self.decisions.push_reserved(Decision {
+        self.decide(Decision {
             rank,
             on: false,
             mark,
         });
-        self.standing = standing;
     }
 
     // A turn: drops the decisions after the last that is off, and changes that one to on.
@@ -77,23 +80,18 @@ impl Record {
         };
         let decision = self.decision(at);
         self.board.undo(decision.mark);
-        self.board.decide(self.ranks[decision.rank], true);
-        let standing = self.settle(decision.rank + 1);
         self.decisions.truncate(at);
-        self.decisions.push_reserved(Decision {
-            rank: decision.rank,
+        self.decide(Decision {
             on: true,
-            mark: decision.mark,
+            ..decision
         });
-        self.standing = standing;
     }
 
     // One step: a turn on a contradiction or a told find, otherwise a choice. An untold find asks
     // for neither.
     pub(crate) fn step(&mut self) {
         match self.standing {
-            Standing::Contradiction => self.turn(),
-            Standing::Told => self.turn(),
+            Standing::Contradiction | Standing::Told => self.turn(),
             Standing::Choice(rank) => self.choose(rank),
             Standing::Find => {}
         }

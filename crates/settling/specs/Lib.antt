@@ -1,2 +1,3 @@
 pub mod Boards
 pub mod Counts
+pub mod Knowing

@@ -1,12 +1,33 @@
 ghost use Rattle.std.specs.Prelude.{◌≡◌, ℕ, ◌+◌, ◌*◌, ◌<◌, ◌≤◌, length, vec_len};
-ghost use Rattle.codes.specs.declared.value.Value.{Value};
-ghost use Rattle.settling.specs.Boards.{Grown};
 ghost use Rattle.gathering.specs.Bounds.{Names};
+ghost use Rattle.settling.specs.Knowing.{Grown};
 
-use crate::board::Board;
-use crate::reading::{instance_at, start_at, touching_at};
-use codes::{CONTRADICTION, Value};
+use crate::contradiction::Contradiction;
+use crate::known::Known;
+use codes::{CONTRADICTION, Table, Value};
 use systems::Instance;
+
+// What a code says, as a sum of these: see `codes::code_of`.
+const CENTRE_OFF: u8 = 2;
+
+const CENTRE_ON: u8 = 4;
+
+const SUCCESSOR_OFF: u8 = 8;
+
+const SUCCESSOR_ON: u8 = 16;
+
+const NEIGHBOURS_OFF: u8 = 32;
+
+const NEIGHBOURS_ON: u8 = 64;
+
+// Whether a code says off or on of a part, whose two summands these are; none where it says neither.
+fn said(code: u8, off: u8, on: u8) -> Option<bool> {
+    if code & (off | on) == 0 {
+        None
+    } else {
+        Some(code & on != 0)
+    }
+}
 
 // What a neighbour adds to the index of a descriptor: 27 where it is on, 3 where it is unknown.
 fn weight(value: Value) -> usize
@@ -23,25 +44,24 @@ fn weight(value: Value) -> usize
 fn index_of(values: &[Value], instance: &Instance) -> usize
     requires { Names (length values.now) instance.now }
 {
-    let centre = values[instance.centre as usize].number() as usize;
-    let successor = values[instance.successor as usize].number() as usize;
-    let neighbours = instance.neighbours;
+    let centre = u32::from(values[instance.centre as usize]) as usize;
+    let successor = u32::from(values[instance.successor as usize]) as usize;
     let mut index = centre * 243 + successor;
-    for i in 0..8usize {
-        index += weight(values[neighbours[i] as usize]);
+    // no `map` and `sum`: their closure would not know that each class it gets has a value
+    for class in &instance.neighbours {
+        index += weight(values[*class as usize]);
     }
     index
 }
 
-impl Board {
+impl Known {
     // Sets the unknown ones of an instance's neighbours.
     fn set_neighbours(&mut self, instance: &Instance, on: bool)
         requires { Names (vec_len self.old.values) instance.now }
         ensures { Grown self.old self.new }
     {
-        let neighbours = instance.neighbours;
-        for i in 0..8usize {
-            self.set(neighbours[i], on);
+        for class in &instance.neighbours {
+            self.set(*class, on);
         }
     }
 
@@ -50,82 +70,33 @@ impl Board {
         requires { Names (vec_len self.old.values) instance.now }
         ensures { Grown self.old self.new }
     {
-        if code & 6 != 0 {
-            self.set(instance.centre, code & 4 != 0);
+        if let Some(on) = said(code, CENTRE_OFF, CENTRE_ON) {
+            self.set(instance.centre, on);
         }
-        if code & 24 != 0 {
-            self.set(instance.successor, code & 16 != 0);
+        if let Some(on) = said(code, SUCCESSOR_OFF, SUCCESSOR_ON) {
+            self.set(instance.successor, on);
         }
-        if code & 96 != 0 {
-            self.set_neighbours(instance, code & 64 != 0);
+        if let Some(on) = said(code, NEIGHBOURS_OFF, NEIGHBOURS_ON) {
+            self.set_neighbours(instance, on);
         }
     }
-}
 
-impl Board {
-    // Looks at one instance and sets what it forces; false where it is a contradiction.
-    fn examine(&mut self, at: usize) -> bool
-        requires { at < vec_len self.old.system.instances }
+    // Looks at one instance and sets what it forces.
+    pub(crate) fn examine(
+        &mut self,
+        table: &Table,
+        instance: &Instance,
+    ) -> Result<(), Contradiction>
+        requires { Names (vec_len self.old.values) instance.now }
         ensures { Grown self.old self.new }
     {
-        let instance = instance_at(&self.system, at);
-        let code = self
-            .table
-            .code_at(index_of(self.values.as_slice(), &instance));
-        if code == CONTRADICTION {
-            return false;
-        }
-        if code != 0 {
-            self.force(&instance, code);
-        }
-        true
-    }
-
-    // Looks at the instances that touch a class; false at a contradiction.
-    fn examine_around(&mut self, class: usize) -> bool
-        requires { class ≤ self.old.system.classes }
-        ensures { Grown self.old self.new }
-    {
-        if class == self.system.classes {
-            return true;
-        }
-        let start = start_at(&self.system, class);
-        let end = start_at(&self.system, class + 1);
-        for at in start..end {
-            let instance = touching_at(&self.system, at);
-            if !self.examine(instance) {
-                return false;
+        match table.code_at(index_of(self.values.as_slice(), instance)) {
+            0 => Ok(()),
+            CONTRADICTION => Err(Contradiction),
+            code => {
+                self.force(instance, code);
+                Ok(())
             }
         }
-        true
-    }
-
-    // Settles: looks around each class of the trail that was not settled yet, until nothing more is
-    // forced; false at a contradiction.
-    pub fn settle(&mut self) -> bool
-        ensures kept { (self.new.system ≡ self.old.system) × (self.new.table ≡ self.old.table) }
-        ensures longer { vec_len self.old.trail ≤ vec_len self.new.trail }
-    {
-        while self.settled < self.trail.len() {
-            let class = self.trail_at(self.settled);
-            if !self.examine_around(class) {
-                return false;
-            }
-            self.settled += 1;
-        }
-        true
-    }
-
-    // Looks at every instance once, and then settles; false at a contradiction.
-    pub fn settle_all(&mut self) -> bool
-        ensures kept { (self.new.system ≡ self.old.system) × (self.new.table ≡ self.old.table) }
-        ensures longer { vec_len self.old.trail ≤ vec_len self.new.trail }
-    {
-        for at in 0..self.system.instances.len() {
-            if !self.examine(at) {
-                return false;
-            }
-        }
-        self.settle()
     }
 }

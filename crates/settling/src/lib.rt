@@ -2,9 +2,11 @@
 #![tactic(auto)]
 
 mod board;
+mod contradiction;
 mod forcing;
-mod reading;
-mod setting;
+mod known;
+mod settling;
 mod starting;
 
 pub use board::Board;
+pub use contradiction::Contradiction;

@@ -1,11 +1,14 @@
 ghost use Rattle.std.specs.Prelude.{◌≡◌, ℕ, ◌+◌, ◌<◌, ◌≤◌, IfOk, vec_len};
+ghost use Rattle.settling.specs.Boards.{trail_len};
 
 use crate::board::Board;
+use crate::known::Known;
 use classes::{Classes, Musts};
 use codes::{Table, Value};
 use gathering::System;
 use rules::Rule;
 use std::alloc::{AllocError, Global};
+use std::iter;
 
 // What is known of a class from the start. A torn class is known too: it is off.
 fn first_value(musts: Musts) -> Value {
@@ -23,12 +26,10 @@ fn first_values(heap: Global, classes: &Classes, count: usize) -> Result<Vec<Val
     requires { count ≤ 4096 }
     ensures { IfOk result (λ v. vec_len v ≡ count + 1) }
 {
-    let mut values = Vec::new(heap);
-    for class in 0..count {
-        values.push(first_value(classes.musts(class)))?;
-    }
-    values.push(Value::Off)?;
-    Ok(values)
+    (0..count)
+        .map(|class| first_value(classes.musts(class)))
+        .chain(iter::once(Value::Off))
+        .collect(heap)
 }
 
 impl Board {
@@ -39,28 +40,19 @@ impl Board {
         rule: &Rule,
         classes: &Classes,
     ) -> Result<Board, AllocError>
-        ensures { IfOk result (λ b. (b.system ≡ system) × (vec_len b.trail ≡ 0)) }
+        ensures system { IfOk result (λ b. b.system ≡ system) }
+        ensures trail { IfOk result (λ b. trail_len b ≡ 0) }
     {
         let count = system.classes();
-        let values = first_values(heap, classes, count)?;
-        let trail = Vec::with_capacity(heap, count + 1)?;
-        let table = Table::of(rule);
+        let known = Known {
+            values: first_values(heap, classes, count)?,
+            trail: Vec::with_capacity(heap, count + 1)?,
+            settled: 0,
+        };
         Ok(Board {
             system,
-            table,
-            values,
-            trail,
-            settled: 0,
+            table: Table::of(rule),
+            known,
         })
-    }
-
-    // Decides an unknown class.
-    pub fn decide(&mut self, class: u16, on: bool)
-        ensures kept { (self.new.system ≡ self.old.system) × (self.new.table ≡ self.old.table) }
-        ensures longer { vec_len self.old.trail ≤ vec_len self.new.trail }
-    {
-        if (class as usize) < self.values.len() {
-            self.set(class, on);
-        }
     }
 }

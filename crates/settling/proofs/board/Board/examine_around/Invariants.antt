@@ -1,5 +1,5 @@
-use Rattle.settling.specs.Boards.{Grown}
+use Rattle.settling.specs.Knowing.{Grown}
 use Rattle.settling.proofs.board.Board.examine_around.Given as goal
 
-abbrev pub invariant-loop-at : goal.invariant-loop-at
-invariant-loop-at l = Grown l.initial.self l.self
+abbrev pub invariant-loop-number : goal.invariant-loop-number
+invariant-loop-number l = Grown l.fn.self.known l.known

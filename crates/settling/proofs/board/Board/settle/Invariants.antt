@@ -1,8 +1,9 @@
-use Rattle.std.proofs.Common.{◌≡◌, ◌-◌, ◌≤◌, vec_len}
+use Rattle.std.proofs.Common.{◌-◌, ◌≤◌, vec_len}
+use Rattle.settling.specs.Boards.{Kept, trail_len}
 use Rattle.settling.proofs.board.Board.settle.Given as goal
 
-abbrev pub invariant-loop-self : goal.invariant-loop-self
-invariant-loop-self l = (l.self.system ≡ l.initial.self.system) × (l.self.table ≡ l.initial.self.table) × (vec_len l.initial.self.trail ≤ vec_len l.self.trail)
+abbrev pub invariant-loop-class : goal.invariant-loop-class
+invariant-loop-class l = record { kept : Kept l.initial.self l.self; longer : trail_len l.initial.self ≤ trail_len l.self }
 
-abbrev pub decreases-loop-self : goal.decreases-loop-self
-decreases-loop-self l = vec_len l.self.values - l.self.settled
+abbrev pub decreases-loop-class : goal.decreases-loop-class
+decreases-loop-class l = vec_len l.self.known.values - l.self.known.settled
