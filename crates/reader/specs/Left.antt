@@ -1,9 +1,9 @@
 -- The bytes that a reader has not passed, and how it passes some.
-use Rattle.std.specs.Prelude.{◌≡◌, ℕ, Bool, false, List, [], ◌∷◌, drop, Some, None, Ok, Err, Option, Result}
+use Rattle.std.specs.Prelude.{◌≡◌, ℕ, ◌+◌, ◌-◌, ◌*◌, Bool, cond, List, [], ◌∷◌, drop, Some, None, Ok, Err, Option, Result}
 use Rattle.lines.specs.Lines.{blank, first_line}
 use Rattle.rle.specs.Items.{line_over, mark_of}
 use Rattle.rle.specs.declared.fault.ReadCause.{ReadCause}
-use Rattle.rle.specs.Scans.{Scan, good, bad, and_then, space, in_turn, digit, size}
+use Rattle.rle.specs.Scans.{Scan, good, bad, and_then, this_byte, space, gap, byte_of, is_loose, in_turn, digit, size}
 use Rattle.rle.specs.declared.fault.ReadCause.TheVariants.{Byte, Ended}
 use Rattle.rle.specs.declared.mark.Mark.{Mark}
 use Rattle.rle.specs.declared.phase.Step.{Step}
@@ -20,15 +20,19 @@ abbrev pub first_of : List ℕ → Option ℕ
 first_of [] = None
 first_of (b ∷ bs) = Some b
 
--- whether a digit stands first
-abbrev pub digit_first : List ℕ → Bool
-digit_first [] = false
-digit_first (b ∷ bs) = digit b
+-- a number with the digit that stands first at its end, if one does
+abbrev pub longer_by : ℕ → List ℕ → Option ℕ
+longer_by n [] = None
+longer_by n (b ∷ bs) = cond (digit b) (Some (n * 10 + (b - 48))) None
 
 -- which bytes may be passed over
 abbrev pub filler : Gap → ℕ → Bool
 filler Blanks = blank
 filler Space = space
+
+-- a step's byte, and the blanks that may follow it
+abbrev pub step_here : Step → List ℕ → Scan (Unit {0})
+step_here s t = and_then (this_byte (byte_of s) t) (λ _ rest. good tt (gap (is_loose s) rest))
 
 -- a size after some bytes
 abbrev pub size_after : List Step → List ℕ → Scan ℕ
@@ -62,3 +66,7 @@ outcome view (Err cause) rest = bad cause rest
 pub record Scanned {A B : Type 0} (view : A → B) (scan : List ℕ → Scan B) (old new : Reader) (r : Result A ReadCause) : Type 0 where
   pub text : new.text.now ≡ old.text.now
   pub told : outcome view r (left new) ≡ scan (left old)
+
+-- a part is read as a definition says, and means what it is
+abbrev pub Read : {A : Type 0} → (List ℕ → Scan A) → Reader → Reader → Result A ReadCause → Type 0
+Read scan old new r = Scanned (λ a. a) scan old new r

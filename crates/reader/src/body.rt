@@ -1,76 +1,28 @@
-ghost use Rattle.reader.specs.Left.{mark_here, Scanned};
+ghost use Rattle.reader.specs.Left.{mark_here, Read};
 ghost use Rattle.reader.specs.Shown.{Took};
-ghost use Rattle.rle.specs.Items.{mark_of, laid, counted, marked, body_item};
+ghost use Rattle.rle.specs.Items.{counted, marked, body_item};
 ghost use Rattle.rle.specs.Scans.{and_then};
-ghost use Rattle.std.specs.Prelude.{◌≡◌};
 
 use crate::item::{Item, Taken};
 use crate::reader::Reader;
-use crate::sizes::is_digit_from;
 use rle::{Cursor, Mark, Phase, ReadCause, Run};
-
-// The mark that a byte stands for.
-fn mark_of(byte: u8) -> Option<Mark>
-    ensures { result ≡ mark_of byte }
-{
-    match byte as char {
-        'b' => Some(Mark::Off),
-        'o' => Some(Mark::On),
-        '$' => Some(Mark::NextRow),
-        _ => None,
-    }
-}
-
-// Where the next run is laid after so many marks; none where these leave the box.
-fn lay(cursor: Cursor, count: u32, mark: Mark) -> Option<Cursor>
-    ensures { result ≡ laid cursor count mark }
-{
-    match mark {
-        Mark::Off | Mark::On => {
-            let column = cursor.column.checked_add(count)?;
-            if cursor.row < cursor.height && column <= cursor.width {
-                Some(Cursor { column, ..cursor })
-            } else {
-                None
-            }
-        }
-        Mark::NextRow => {
-            let row = cursor.row.checked_add(count)?;
-            if row <= cursor.height {
-                Some(Cursor {
-                    column: 0,
-                    row,
-                    ..cursor
-                })
-            } else {
-                None
-            }
-        }
-    }
-}
 
 impl<'a> Reader<'a> {
     // How many marks a run has: 1 where no digit stands.
     fn count(&mut self) -> Result<u32, ReadCause>
-        ensures { Scanned (λ n. n) counted self.old self.new result }
+        ensures { Read counted self.old self.new result }
     {
-        match self.peek() {
-            None => Err(ReadCause::Ended),
-            Some(byte) if is_digit_from(b'0', byte) => self.numeral(),
-            Some(_) => Ok(1),
+        match self.next_byte()? {
+            b'0'..=b'9' => self.numeral(),
+            _ => Ok(1),
         }
     }
 
     // The mark of a run.
     fn mark(&mut self) -> Result<Mark, ReadCause>
-        ensures { Scanned (λ m. m) mark_here self.old self.new result }
+        ensures { Read mark_here self.old self.new result }
     {
-        let Some(byte) = self.peek() else {
-            return Err(ReadCause::Ended);
-        };
-        let Some(mark) = mark_of(byte) else {
-            return Err(ReadCause::Byte);
-        };
+        let mark = Mark::try_from(self.next_byte()?)?;
         self.advance();
         Ok(mark)
     }
@@ -82,7 +34,7 @@ impl<'a> Reader<'a> {
         let start = *self;
         let count = self.count()?;
         let mark = self.mark()?;
-        let Some(next) = lay(cursor, count, mark) else {
+        let Some(next) = cursor.after(count, mark) else {
             *self = start;
             return Err(ReadCause::Outside);
         };
@@ -100,13 +52,12 @@ impl<'a> Reader<'a> {
     pub(crate) fn body_item(&mut self, cursor: Cursor) -> Result<Taken<'a>, ReadCause>
         ensures { Took (body_item cursor) self.old self.new result }
     {
-        match self.peek() {
-            None => Err(ReadCause::Ended),
-            Some(b'!') => Ok(Taken {
+        match self.next_byte()? {
+            b'!' => Ok(Taken {
                 item: Item::End,
                 phase: Phase::Body(cursor),
             }),
-            Some(_) => self.run(cursor),
+            _ => self.run(cursor),
         }
     }
 }

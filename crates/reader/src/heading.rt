@@ -1,5 +1,5 @@
 ghost use Rattle.lines.specs.Lines.{blank, first_line};
-ghost use Rattle.reader.specs.Left.{left, size_after, whole_line, Scanned};
+ghost use Rattle.reader.specs.Left.{left, size_after, whole_line, Read, Scanned};
 ghost use Rattle.reader.specs.Shown.{Headed};
 ghost use Rattle.rle.specs.Items.{heading, tailed, ruled, unruled, before_rule};
 ghost use Rattle.rle.specs.Scans.{and_then, in_turn, past};
@@ -17,10 +17,7 @@ impl<'a> Reader<'a> {
     fn line_here(&self) -> &'a [u8]
         ensures { result.now ≡ first_line (left self.now) }
     {
-        let text = self.text;
-        let at = self.at;
-        let end = line_end(text, at);
-        &text[at..end]
+        &self.text[self.at..line_end(self.text, self.at)]
     }
 
     // Passes a line that a newline ends, and hands it out without.
@@ -43,7 +40,7 @@ impl<'a> Reader<'a> {
         let rest = self.line()?;
         let len = trimmed_len(rest);
         Ok(Heading {
-            rule: Some(&rest[0..len]),
+            rule: Some(&rest[..len]),
             rule_column,
             ..bare
         })
@@ -67,16 +64,15 @@ impl<'a> Reader<'a> {
     fn tailed(&mut self, bare: Heading<'a>) -> Result<Heading<'a>, ReadCause>
         ensures { Headed (tailed bare.entry.width bare.entry.height) bare.entry.line.now self.old self.new result }
     {
-        match self.peek() {
-            None => Err(ReadCause::Ended),
-            Some(b',') => self.ruled(bare),
-            Some(_) => self.unruled(bare),
+        match self.next_byte()? {
+            b',' => self.ruled(bare),
+            _ => self.unruled(bare),
         }
     }
 
     // A size after some bytes.
     fn size_after(&mut self, steps: &[Step]) -> Result<u32, ReadCause>
-        ensures { Scanned (λ n. n) (size_after steps.now) self.old self.new result }
+        ensures { Read (size_after steps.now) self.old self.new result }
     {
         self.in_turn(steps)?;
         self.size()

@@ -1,7 +1,7 @@
 use rle::{Phase, Run};
 
 // What a heading tells, and the part of the text that it is.
-#[derive(Clone, Copy)]
+#[derive(Clone, Copy, PartialEq, Eq, Debug)]
 pub struct Heading<'a> {
     // the line without its newline
     pub line: &'a [u8],
@@ -14,7 +14,7 @@ pub struct Heading<'a> {
 }
 
 // A part of a text; remarks and headings are lent from it.
-#[derive(Clone, Copy)]
+#[derive(Clone, Copy, PartialEq, Eq, Debug)]
 pub enum Item<'a> {
     // a line without its newline
     Remark(&'a [u8]),
@@ -24,7 +24,7 @@ pub enum Item<'a> {
 }
 
 // An item and where it starts: line and column, both from 1.
-#[derive(Clone, Copy)]
+#[derive(Clone, Copy, PartialEq, Eq, Debug)]
 pub struct Located<'a> {
     pub line: u32,
     pub column: u32,

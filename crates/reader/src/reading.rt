@@ -16,11 +16,12 @@ impl<'a> Reader<'a> {
         ensures { Opened text.now result }
     {
         if text.len() > 65_536 {
-            return Reader::at_start(&text[0..0], Phase::Failed(ReadCause::TooLong));
+            return Reader::at_start(&[], Phase::Failed(ReadCause::TooLong));
         }
         Reader::at_start(text, Phase::Opening)
     }
 
+    #[tactic(auto, unfolding(rle::specs::Spots::spot_past))]
     fn at_start(text: &'a [u8], phase: Phase) -> Reader<'a>
         requires { length text.now ≤ 65536 }
         ensures text { result.text.now ≡ text.now }
@@ -42,8 +43,7 @@ impl<'a> Reader<'a> {
     {
         let phase = self.phase;
         self.seek_item(phase);
-        let line = self.line;
-        let column = self.column;
+        let Reader { line, column, .. } = *self;
         match self.item_here(phase) {
             Ok(taken) => {
                 self.phase = taken.phase;
@@ -88,10 +88,9 @@ impl<'a> Reader<'a> {
     fn opening_item(&mut self) -> Result<Taken<'a>, ReadCause>
         ensures { Took opening_item self.old self.new result }
     {
-        match self.peek() {
-            None => Err(ReadCause::Ended),
-            Some(b'#') => self.remark_item(),
-            Some(_) => self.heading_item(),
+        match self.next_byte()? {
+            b'#' => self.remark_item(),
+            _ => self.heading_item(),
         }
     }
 
@@ -110,15 +109,9 @@ impl<'a> Reader<'a> {
         ensures { Took heading_item self.old self.new result }
     {
         let heading = self.heading()?;
-        let cursor = Cursor {
-            width: heading.width,
-            height: heading.height,
-            column: 0,
-            row: 0,
-        };
         Ok(Taken {
             item: Item::Heading(heading),
-            phase: Phase::Body(cursor),
+            phase: Phase::Body(Cursor::top_left(heading.width, heading.height)),
         })
     }
 }

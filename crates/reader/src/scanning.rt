@@ -1,43 +1,32 @@
-ghost use Rattle.lines.specs.Lines.{blank};
-ghost use Rattle.reader.specs.Left.{left, first_of, filler, Passed, Scanned};
+ghost use Rattle.reader.specs.Left.{left, first_of, filler, step_here, Passed, Read};
 ghost use Rattle.rle.specs.Scans.{past, this_byte, in_turn};
+ghost use Rattle.std.specs.Option.{ok_or};
 ghost use Rattle.std.specs.Prelude.{◌≡◌, drop};
 
 use crate::gap::Gap;
 use crate::reader::Reader;
-use lines::is_blank;
 use rle::{ReadCause, Step};
-
-// Whether a byte may be passed over.
-fn fills(gap: Gap, byte: u8) -> bool
-    ensures { result ≡ filler gap byte }
-{
-    match gap {
-        Gap::Blanks => is_blank(byte),
-        Gap::Space => is_blank(byte) || byte == b'\n',
-    }
-}
 
 impl<'a> Reader<'a> {
     // The byte that comes next.
     pub(crate) fn peek(&self) -> Option<u8>
         ensures { result ≡ first_of (left self.now) }
     {
-        if self.at < self.text.len() {
-            Some(self.text[self.at])
-        } else {
-            None
-        }
+        self.text.get(self.at).copied()
+    }
+
+    // The byte that has to come next.
+    pub(crate) fn next_byte(&self) -> Result<u8, ReadCause>
+        ensures { result ≡ ok_or (first_of (left self.now)) ReadCause.Ended }
+    {
+        self.peek().ok_or(ReadCause::Ended)
     }
 
     // Passes one byte, if there is one.
     pub(crate) fn advance(&mut self)
         ensures { Passed (drop 1) self.old self.new }
     {
-        if self.at >= self.text.len() {
-            return;
-        }
-        let byte = self.text[self.at];
+        let Some(byte) = self.peek() else { return };
         self.at += 1;
         if byte == b'\n' {
             self.line += 1;
@@ -51,37 +40,42 @@ impl<'a> Reader<'a> {
     pub(crate) fn skip(&mut self, gap: Gap)
         ensures { Passed (past (filler gap)) self.old self.new }
     {
-        while let Some(byte) = self.peek() {
-            if !fills(gap, byte) {
-                return;
-            }
+        while self.peek().is_some_and(|byte| gap.holds(byte)) {
             self.advance();
         }
     }
 
     // A byte that has to stand here.
     pub(crate) fn this_byte(&mut self, byte: u8) -> Result<(), ReadCause>
-        ensures { Scanned (λ u. u) (this_byte byte) self.old self.new result }
+        ensures { Read (this_byte byte) self.old self.new result }
     {
-        match self.peek() {
-            None => Err(ReadCause::Ended),
-            Some(found) if found == byte => {
-                self.advance();
+        if self.next_byte()? != byte {
+            return Err(ReadCause::Byte);
+        }
+        self.advance();
+        Ok(())
+    }
+
+    // A byte that has to come, and the blanks after it where it is loose.
+    fn step(&mut self, step: Step) -> Result<(), ReadCause>
+        ensures { Read (step_here step) self.old self.new result }
+    {
+        match step {
+            Step::Tight(byte) => self.this_byte(byte),
+            Step::Loose(byte) => {
+                self.this_byte(byte)?;
+                self.skip(Gap::Blanks);
                 Ok(())
             }
-            Some(_) => Err(ReadCause::Byte),
         }
     }
 
-    // Bytes that have to come in turn, with blanks after the loose ones.
+    // Bytes that have to come in turn.
     pub(crate) fn in_turn(&mut self, steps: &[Step]) -> Result<(), ReadCause>
-        ensures { Scanned (λ u. u) (in_turn steps.now) self.old self.new result }
+        ensures { Read (in_turn steps.now) self.old self.new result }
     {
         for step in steps {
-            self.this_byte(step.byte)?;
-            if step.loose {
-                self.skip(Gap::Blanks);
-            }
+            self.step(*step)?;
         }
         Ok(())
     }

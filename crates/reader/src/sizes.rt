@@ -1,64 +1,53 @@
-ghost use Rattle.reader.specs.Left.{left, digit_first, Scanned};
+ghost use Rattle.reader.specs.Left.{left, longer_by, Read};
 ghost use Rattle.rle.specs.Scans.{digits_on, numeral, size};
-ghost use Rattle.std.specs.Prelude.{◌≡◌, ◌&&◌, nat_le};
+ghost use Rattle.std.specs.Prelude.{◌≡◌, ◌≤◌};
 
 use crate::reader::Reader;
 use numbers::with_digit;
 use rle::ReadCause;
 
-// Whether a byte is a digit, and not below a lowest one.
-pub(crate) fn is_digit_from(lowest: u8, byte: u8) -> bool
-    ensures { result ≡ (nat_le lowest byte && nat_le byte 57) }
-{
-    lowest <= byte && byte <= b'9'
-}
-
 impl<'a> Reader<'a> {
-    // Whether a digit comes next.
-    fn at_digit(&self) -> bool
-        ensures { result ≡ digit_first (left self.now) }
+    // A number of up to four digits with the digit that comes next at its end; none where no digit
+    // comes.
+    fn longer(&self, number: u32) -> Option<u32>
+        requires { number ≤ 9999 }
+        ensures { result ≡ longer_by number (left self.now) }
     {
-        match self.peek() {
-            None => false,
-            Some(byte) => is_digit_from(b'0', byte),
-        }
+        u32::try_from(with_digit(u64::from(number), self.peek()?)?).ok()
     }
 
     // The digits that come, at most four; a fifth is out of place.
     fn digits(&mut self) -> Result<u32, ReadCause>
-        ensures { Scanned (λ n. n) (digits_on 4 0) self.old self.new result }
+        ensures { Read (digits_on 4 0) self.old self.new result }
     {
-        let mut value = 0;
-        for count in 0..4u32 {
-            let Some(byte) = self.peek() else {
-                return Ok(value as u32);
+        let mut number = 0;
+        for _ in 0..4u32 {
+            let Some(longer) = self.longer(number) else {
+                return Ok(number);
             };
-            let Some(longer) = with_digit(value, byte) else {
-                return Ok(value as u32);
-            };
-            value = longer;
+            number = longer;
             self.advance();
         }
-        if self.at_digit() {
-            return Err(ReadCause::Byte);
+        match self.longer(number) {
+            Some(_) => Err(ReadCause::Byte),
+            None => Ok(number),
         }
-        Ok(value as u32)
     }
 
     // A number of one to four digits without a leading zero.
+    #[tactic(auto, unfolding(rle::specs::Scans::numeral))]
     pub(crate) fn numeral(&mut self) -> Result<u32, ReadCause>
-        ensures { Scanned (λ n. n) numeral self.old self.new result }
+        ensures { Read numeral self.old self.new result }
     {
-        match self.peek() {
-            None => Err(ReadCause::Ended),
-            Some(byte) if is_digit_from(b'1', byte) => self.digits(),
-            Some(_) => Err(ReadCause::Byte),
+        match self.next_byte()? {
+            b'1'..=b'9' => self.digits(),
+            _ => Err(ReadCause::Byte),
         }
     }
 
     // A width or a height; one that is too large is at fault where it starts.
     pub(crate) fn size(&mut self) -> Result<u32, ReadCause>
-        ensures { Scanned (λ n. n) size self.old self.new result }
+        ensures { Read size self.old self.new result }
     {
         let start = *self;
         let number = self.numeral()?;

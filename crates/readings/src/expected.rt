@@ -1,28 +1,80 @@
-// A verdict on a text: its file, and the number and place of its refusal; all 0 where it is accepted.
-#[derive(Clone, Copy)]
-pub struct Expected<'a> {
-    pub name: &'a str,
-    pub number: u32,
+use rle::ReadFault;
+
+// A line and a column, both from 1.
+#[derive(Clone, Copy, PartialEq, Eq, Debug)]
+pub struct Place {
     pub line: u32,
     pub column: u32,
 }
 
-fn number_of(word: Option<&str>) -> u32 {
-    match word {
-        Some(word) => word.parse().unwrap_or(0),
-        None => 0,
+// The number of a refusal, and the place at fault.
+#[derive(Clone, Copy, PartialEq, Eq, Debug)]
+pub struct Refusal {
+    pub number: u32,
+    pub place: Place,
+}
+
+impl From<ReadFault> for Refusal {
+    fn from(fault: ReadFault) -> Refusal {
+        Refusal {
+            number: fault.cause.number(),
+            place: Place {
+                line: fault.line,
+                column: fault.column,
+            },
+        }
     }
 }
 
-// The verdict that a line tells: the file, eight words on the space and the rule, then `accepted` or
-// `refused` with a number and a place.
+// What the reader has to make of a text.
+#[derive(Clone, Copy, PartialEq, Eq, Debug)]
+pub enum Verdict {
+    // it is at fault: 18 to 22
+    Refused(Refusal),
+    // it is read to its end, and its rule is at fault: 5 and 6
+    RuleAt(Place),
+    // it is read to its end
+    Read,
+}
+
+// A text's file and its verdict.
+#[derive(Clone, Copy)]
+pub struct Expected<'a> {
+    pub name: &'a str,
+    pub verdict: Verdict,
+}
+
+// The refusal that a line tells: the file, eight words on the space and the rule, `refused`, and a
+// number and a place. None where there is no refusal, or one without a line and a column.
+fn refusal_of(line: &str) -> Option<Refusal> {
+    let mut numbers = line
+        .split(' ')
+        .skip(10)
+        .map_while(|word| word.parse::<u32>().ok());
+    Some(Refusal {
+        number: numbers.next()?,
+        place: Place {
+            line: numbers.next()?,
+            column: numbers.next()?,
+        },
+    })
+}
+
+// The verdict that a line tells, so far as the reader decides it.
+fn verdict_of(line: &str) -> Verdict {
+    match refusal_of(line) {
+        Some(refusal) => match refusal.number {
+            18..=22 => Verdict::Refused(refusal),
+            5 | 6 => Verdict::RuleAt(refusal.place),
+            _ => Verdict::Read,
+        },
+        None => Verdict::Read,
+    }
+}
+
 pub fn expected_of(line: &str) -> Expected<'_> {
-    let mut words = line.split(' ');
-    let name = words.next().unwrap_or("");
     Expected {
-        name,
-        number: number_of(words.nth(9)),
-        line: number_of(words.next()),
-        column: number_of(words.next()),
+        name: line.split(' ').next().unwrap_or(""),
+        verdict: verdict_of(line),
     }
 }

@@ -4,7 +4,7 @@
 mod expected;
 mod reading;
 
-use expected::expected_of;
+use expected::{Expected, expected_of};
 use reading::agrees;
 use std::fs;
 
@@ -13,11 +13,10 @@ fn run(rt: &HostRuntime) -> anyhow::Result<()> {
     let verdicts = fs::read_to_string(rt, "verdicts.list")?;
     let mut agree = 0u32;
     let mut differ = 0u32;
-    for verdict in verdicts.as_str().lines() {
-        let expected = expected_of(verdict);
-        let name = expected.name;
+    for line in verdicts.as_str().lines() {
+        let Expected { name, verdict } = expected_of(line);
         let text = fs::read(rt, format!(in heap; "texts/{name}")?.as_str())?;
-        if agrees(text.as_slice(), &expected) {
+        if agrees(text.as_slice(), verdict) {
             agree = agree.saturating_add(1);
         } else {
             differ = differ.saturating_add(1);

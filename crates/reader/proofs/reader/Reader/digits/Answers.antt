@@ -1,38 +1,37 @@
 use Rattle.std.proofs.Common.{◌-◌, sym, ap, ◌∙◌, arith}
 use Rattle.rle.specs.Scans.{digits_on}
 use Rattle.reader.specs.Left.{left}
-use Rattle.reader.proofs.Numerals.{small, grown, no_digit, none_first, digits_over, digits_full, digits_next, digits_last}
+use Rattle.reader.proofs.Numerals.{digits_over, digits_full, digits_next, digits_last, grown, small}
 use Rattle.reader.proofs.reader.Reader.digits.Goals as goal
+
+pub longer-requires : goal.longer-requires
+longer-requires c = small c.loop.number c.loop.counter c.loop.invariant.2 (omega arith)
+
+pub longer-requires-2 : goal.longer-requires-2
+longer-requires-2 c = small c.loop.number c.loop.counter c.loop.invariant.2 (omega arith)
 
 pub returns-in_default : goal.returns-in_default
 returns-in_default c =
-    let t = left c.loop-count.self in
-    let inv = c.loop-count.invariant in
-    record { text = inv.0; told = digits_over (4 - c.loop-count.count) c.loop-count.value t (none_first t (sym c.in_default.ensures)) ∙ inv.1 }
+    let inv = c.loop.invariant in
+    record { text = inv.0; told = digits_over (4 - c.loop.counter) c.loop.number (left c.loop.self) (sym c.in_default.ensures) ∙ inv.1 }
 
-pub returns-in_default-with_digit : goal.returns-in_default-with_digit
-returns-in_default-with_digit c =
-    let t = left c.loop-count.self in
-    let inv = c.loop-count.invariant in
-    let few = small c.loop-count.value c.loop-count.count inv.2 (omega arith) in
-    let over = no_digit t c.in-Some.byte c.loop-count.value (sym c.in-Some.ensures) few c.in_default-with_digit.ensures in
-    record { text = inv.0; told = digits_over (4 - c.loop-count.count) c.loop-count.value t over ∙ inv.1 }
-
-pub loop-count-preserved : goal.loop-count-preserved
-loop-count-preserved c =
-    let t = left c.loop-count.self in
-    let inv = c.loop-count.invariant in
-    let told = c.in-Some-with_digit.ensures in
-    let next = digits_next c.loop-count.count c.loop-count.value c.in-Some-with_digit.longer t c.in-Some.byte c.loop-count-test.true (sym c.in-Some.ensures) told.0 told.1 told.2 in (
+pub loop-preserved : goal.loop-preserved
+loop-preserved c =
+    let t = left c.loop.self in
+    let inv = c.loop.invariant in
+    let n = c.loop.number in
+    let m = c.in-Some.longer in (
       c.advance.ensures.text ∙ inv.0,
-      ap (digits_on _ c.in-Some-with_digit.longer) c.advance.ensures.over ∙ next ∙ inv.1,
-      omega (arith, grown c.loop-count.value c.loop-count.count (c.in-Some.byte - 48) inv.2 (omega arith)),
+      ap (digits_on _ m) c.advance.ensures.over ∙ digits_next c.loop.counter n m t c.loop-test.true (sym c.in-Some.ensures) ∙ inv.1,
+      grown n m c.loop.counter t (sym c.in-Some.ensures) inv.2,
     )
 
-pub returns-then-at_digit : goal.returns-then-at_digit
-returns-then-at_digit c =
-    record { text = c.loop-count.invariant.0; told = digits_full c.loop-count.value (left c.loop-count.self) (sym c.if-at_digit.ensures) ∙ digits_last c.loop-count.count c.loop-count.value (left c.loop-count.self) c.loop-count-test.false ∙ c.loop-count.invariant.1 }
+pub returns-in-Some-longer : goal.returns-in-Some-longer
+returns-in-Some-longer c =
+    let t = left c.loop.self in
+    record { text = c.loop.invariant.0; told = digits_full c.loop.number _ t (sym c.in-Some-longer.ensures) ∙ digits_last c.loop.counter c.loop.number t c.loop-test.false ∙ c.loop.invariant.1 }
 
-pub returns : goal.returns
-returns c =
-    record { text = c.loop-count.invariant.0; told = digits_over 0 c.loop-count.value (left c.loop-count.self) (sym c.if-at_digit.ensures) ∙ digits_last c.loop-count.count c.loop-count.value (left c.loop-count.self) c.loop-count-test.false ∙ c.loop-count.invariant.1 }
+pub returns-in-None : goal.returns-in-None
+returns-in-None c =
+    let t = left c.loop.self in
+    record { text = c.loop.invariant.0; told = digits_over 0 c.loop.number t (sym c.in-None.ensures) ∙ digits_last c.loop.counter c.loop.number t c.loop-test.false ∙ c.loop.invariant.1 }

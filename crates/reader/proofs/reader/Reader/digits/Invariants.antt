@@ -4,8 +4,8 @@ use Rattle.reader.specs.Left.{left}
 use Rattle.reader.proofs.reader.Reader.digits.Given as goal
 
 -- what may follow the digits so far
-abbrev pub invariant-loop-count : goal.invariant-loop-count
-invariant-loop-count l =
+abbrev pub invariant-loop : goal.invariant-loop
+invariant-loop l =
     (l.self.text.now ≡ l.initial.self.text.now)
-    × (digits_on (4 - l.count) l.value (left l.self) ≡ digits_on 4 0 (left l.initial.self))
-    × (l.value < 10 ^ l.count)
+    × (digits_on (4 - l.counter) l.number (left l.self) ≡ digits_on 4 0 (left l.initial.self))
+    × (l.number < 10 ^ l.counter)

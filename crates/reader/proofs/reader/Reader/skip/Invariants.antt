@@ -3,8 +3,8 @@ use Rattle.rle.specs.Scans.{past}
 use Rattle.reader.specs.Left.{left, filler}
 use Rattle.reader.proofs.reader.Reader.skip.Given as goal
 
-abbrev pub invariant-loop-byte : goal.invariant-loop-byte
-invariant-loop-byte l = (l.self.text.now ≡ l.initial.self.text.now) × (past (filler l.gap) (left l.self) ≡ past (filler l.gap) (left l.initial.self))
+abbrev pub invariant-loop-gap : goal.invariant-loop-gap
+invariant-loop-gap l = (l.self.text.now ≡ l.initial.self.text.now) × (past (filler l.gap) (left l.self) ≡ past (filler l.gap) (left l.initial.self))
 
-abbrev pub decreases-loop-byte : goal.decreases-loop-byte
-decreases-loop-byte l = length (left l.self)
+abbrev pub decreases-loop-gap : goal.decreases-loop-gap
+decreases-loop-gap l = length (left l.self)
