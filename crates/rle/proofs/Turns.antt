@@ -6,14 +6,14 @@ use Rattle.lines.specs.Lines.{blank}
 use Rattle.rle.specs.declared.fault.ReadCause.TheVariants.{TooLong, Byte, Size, Outside, Ended}
 use Rattle.rle.specs.declared.phase.Step.{Step}
 use Rattle.rle.specs.Forms.{Gap, Spells}
-use Rattle.rle.specs.Scans.{Scan, good, bad, and_then, past, gap, in_turn}
+use Rattle.rle.specs.Scans.{Scan, good, bad, and_then, past, gap, byte_of, is_loose, in_turn}
 use Rattle.rle.proofs.Pasts.{never, gap_split, gap_stays, past_over, past_stop, past_past}
 use Rattle.rle.proofs.Seen.{Seen, Same}
 
 -- the bytes of some steps without any blanks
 abbrev pub plain : List Step → List ℕ
 plain [] = []
-plain (s ∷ ss) = s.byte ∷ plain ss
+plain (s ∷ ss) = byte_of s ∷ plain ss
 
 no_gap : (loose : Bool) → Gap loose []
 no_gap true = tt
@@ -21,64 +21,64 @@ no_gap false = refl
 
 pub spells_plain : (ss : List Step) → Spells ss (plain ss)
 spells_plain [] = refl
-spells_plain (s ∷ ss) = ([], plain ss, no_gap s.loose, spells_plain ss, refl)
+spells_plain (s ∷ ss) = ([], plain ss, no_gap (is_loose s), spells_plain ss, refl)
 
 abbrev pub Spelled : List Step → Unit {0} → List ℕ → Type 0
 Spelled ss a u = Spells ss u
 
 -- the first byte is the step's
-this_is : (s : Step) (ss : List Step) (b : ℕ) (t : List ℕ) → eqb b s.byte ≡ true → in_turn (s ∷ ss) (b ∷ t) ≡ in_turn ss (gap s.loose t)
+this_is : (s : Step) (ss : List Step) (b : ℕ) (t : List ℕ) → eqb b (byte_of s) ≡ true → in_turn (s ∷ ss) (b ∷ t) ≡ in_turn ss (gap (is_loose s) t)
 unfolding in_turn
-this_is s ss b t e = ap (λ x. and_then x (λ _ rest. in_turn ss (gap s.loose rest))) (cond-true (eqb b s.byte) (good tt t) (bad Byte (b ∷ t)) e)
+this_is s ss b t e = ap (λ x. and_then x (λ _ rest. in_turn ss (gap (is_loose s) rest))) (cond-true (eqb b (byte_of s)) (good tt t) (bad Byte (b ∷ t)) e)
 
-this_isnt : (s : Step) (ss : List Step) (b : ℕ) (t : List ℕ) → eqb b s.byte ≡ false → in_turn (s ∷ ss) (b ∷ t) ≡ bad Byte (b ∷ t)
+this_isnt : (s : Step) (ss : List Step) (b : ℕ) (t : List ℕ) → eqb b (byte_of s) ≡ false → in_turn (s ∷ ss) (b ∷ t) ≡ bad Byte (b ∷ t)
 unfolding in_turn
-this_isnt s ss b t e = ap (λ x. and_then x (λ _ rest. in_turn ss (gap s.loose rest))) (cond-false (eqb b s.byte) (good tt t) (bad Byte (b ∷ t)) e)
+this_isnt s ss b t e = ap (λ x. and_then x (λ _ rest. in_turn ss (gap (is_loose s) rest))) (cond-false (eqb b (byte_of s)) (good tt t) (bad Byte (b ∷ t)) e)
 
 -- what the steps after the first show, shown of all of them
-after_one : (s : Step) (ss : List Step) (b : ℕ) (t : List ℕ) → eqb b s.byte ≡ true → (r : Scan (Unit {0})) → Seen Same (Spelled ss) (in_turn ss) (gap s.loose t) r → Seen Same (Spelled (s ∷ ss)) (in_turn (s ∷ ss)) (b ∷ t) r
+after_one : (s : Step) (ss : List Step) (b : ℕ) (t : List ℕ) → eqb b (byte_of s) ≡ true → (r : Scan (Unit {0})) → Seen Same (Spelled ss) (in_turn ss) (gap (is_loose s) t) r → Seen Same (Spelled (s ∷ ss)) (in_turn (s ∷ ss)) (b ∷ t) r
 after_one s ss b t e (good a rest) h =
-    let g = gap_split s.loose t in
-    let same = eqb-true b s.byte e in
-    let self = eq-eqb s.byte s.byte refl in (
-      s.byte ∷ (g.0 ++ h.0),
+    let g = gap_split (is_loose s) t in
+    let same = eqb-true b (byte_of s) e in
+    let self = eq-eqb (byte_of s) (byte_of s) refl in (
+      byte_of s ∷ (g.0 ++ h.0),
       (g.0, h.0, g.1, h.1, refl),
-      ap (λ x. x ∷ t) same ∙ ap (λ x. s.byte ∷ x) (g.2 ∙ ap (λ x. g.0 ++ x) h.2 ∙ sym (append_assoc g.0 h.0 rest)),
+      ap (λ x. x ∷ t) same ∙ ap (λ x. byte_of s ∷ x) (g.2 ∙ ap (λ x. g.0 ++ x) h.2 ∙ sym (append_assoc g.0 h.0 rest)),
       λ c r v f.
           let here = h.3 c r v f in (
             here.0,
-            this_is s ss s.byte ((g.0 ++ h.0) ++ (c ∷ v)) self
-                ∙ ap (λ x. in_turn ss (gap s.loose x)) (append_assoc g.0 h.0 (c ∷ v))
-                ∙ ap (in_turn ss) (gap_stays s.loose g.0 t h.0 c r v g.1 (h.2 ∙ ap (λ x. h.0 ++ x) f))
+            this_is s ss (byte_of s) ((g.0 ++ h.0) ++ (c ∷ v)) self
+                ∙ ap (λ x. in_turn ss (gap (is_loose s) x)) (append_assoc g.0 h.0 (c ∷ v))
+                ∙ ap (in_turn ss) (gap_stays (is_loose s) g.0 t h.0 c r v g.1 (h.2 ∙ ap (λ x. h.0 ++ x) f))
                 ∙ here.1,
             here.2,
           ),
     )
 after_one s ss b t e (bad TooLong rest) h = tt
 after_one s ss b t e (bad Byte rest) h =
-    let g = gap_split s.loose t in
-    let same = eqb-true b s.byte e in
-    let self = eq-eqb s.byte s.byte refl in (
-      s.byte ∷ (g.0 ++ h.0),
+    let g = gap_split (is_loose s) t in
+    let same = eqb-true b (byte_of s) e in
+    let self = eq-eqb (byte_of s) (byte_of s) refl in (
+      byte_of s ∷ (g.0 ++ h.0),
       h.1,
       h.2,
       h.3,
-      ap (λ x. x ∷ t) same ∙ ap (λ x. s.byte ∷ x) (g.2 ∙ ap (λ x. g.0 ++ x) h.4 ∙ sym (append_assoc g.0 h.0 rest)),
-      (tt, h.5.1, (g.0, h.0 ++ h.5.1, g.1, h.5.2, ap (λ x. s.byte ∷ x) (append_assoc g.0 h.0 h.5.1))),
+      ap (λ x. x ∷ t) same ∙ ap (λ x. byte_of s ∷ x) (g.2 ∙ ap (λ x. g.0 ++ x) h.4 ∙ sym (append_assoc g.0 h.0 rest)),
+      (tt, h.5.1, (g.0, h.0 ++ h.5.1, g.1, h.5.2, ap (λ x. byte_of s ∷ x) (append_assoc g.0 h.0 h.5.1))),
       λ v.
-          this_is s ss s.byte ((g.0 ++ h.0) ++ (h.1 ∷ v)) self
-          ∙ ap (λ x. in_turn ss (gap s.loose x)) (append_assoc g.0 h.0 (h.1 ∷ v))
-          ∙ ap (in_turn ss) (gap_stays s.loose g.0 t h.0 h.1 h.2 v g.1 (h.4 ∙ ap (λ x. h.0 ++ x) h.3))
+          this_is s ss (byte_of s) ((g.0 ++ h.0) ++ (h.1 ∷ v)) self
+          ∙ ap (λ x. in_turn ss (gap (is_loose s) x)) (append_assoc g.0 h.0 (h.1 ∷ v))
+          ∙ ap (in_turn ss) (gap_stays (is_loose s) g.0 t h.0 h.1 h.2 v g.1 (h.4 ∙ ap (λ x. h.0 ++ x) h.3))
           ∙ h.6 v,
     )
 after_one s ss b t e (bad Size rest) h = tt
 after_one s ss b t e (bad Outside rest) h = tt
 after_one s ss b t e (bad Ended rest) h = tt
 
-by_first : (s : Step) (ss : List Step) (b : ℕ) (t : List ℕ) (x : Bool) → eqb b s.byte ≡ x → Seen Same (Spelled ss) (in_turn ss) (gap s.loose t) (in_turn ss (gap s.loose t)) → Seen Same (Spelled (s ∷ ss)) (in_turn (s ∷ ss)) (b ∷ t) (in_turn (s ∷ ss) (b ∷ t))
+by_first : (s : Step) (ss : List Step) (b : ℕ) (t : List ℕ) (x : Bool) → eqb b (byte_of s) ≡ x → Seen Same (Spelled ss) (in_turn ss) (gap (is_loose s) t) (in_turn ss (gap (is_loose s) t)) → Seen Same (Spelled (s ∷ ss)) (in_turn (s ∷ ss)) (b ∷ t) (in_turn (s ∷ ss) (b ∷ t))
 by_first s ss b t true e h =
     let P : Scan (Unit {0}) → Type 0 = Seen Same (Spelled (s ∷ ss)) (in_turn (s ∷ ss)) (b ∷ t) in
-    subst P (sym (this_is s ss b t e)) (after_one s ss b t e (in_turn ss (gap s.loose t)) h)
+    subst P (sym (this_is s ss b t e)) (after_one s ss b t e (in_turn ss (gap (is_loose s) t)) h)
 by_first s ss b t false e h =
     let P : Scan (Unit {0}) → Type 0 = Seen Same (Spelled (s ∷ ss)) (in_turn (s ∷ ss)) (b ∷ t) in
     subst P (sym (this_isnt s ss b t e)) ([], b, t, refl, refl, (tt, plain (s ∷ ss), spells_plain (s ∷ ss)), λ v. this_isnt s ss b v e)
@@ -87,18 +87,18 @@ pub see_turn : (ss : List Step) (t : List ℕ) → Seen Same (Spelled ss) (in_tu
 unfolding in_turn
 see_turn [] t = ([], refl, refl, λ b r v e. (tt, refl, refl))
 see_turn (s ∷ ss) [] = tt
-see_turn (s ∷ ss) (b ∷ t) = by_first s ss b t (eqb b s.byte) refl (see_turn ss (gap s.loose t))
+see_turn (s ∷ ss) (b ∷ t) = by_first s ss b t (eqb b (byte_of s)) refl (see_turn ss (gap (is_loose s) t))
 
 -- the bytes of steps are no blanks
 abbrev pub Solid : List Step → Type 0
 Solid [] = Unit {0}
-Solid (s ∷ ss) = (blank s.byte ≡ false) × Solid ss
+Solid (s ∷ ss) = (blank (byte_of s) ≡ false) × Solid ss
 
 -- what follows begins with no blank
 starts : (ss : List Step) (u v : List ℕ) → Solid ss → Spells ss u → past blank v ≡ v → past blank (u ++ v) ≡ u ++ v
 starts [] u v solid h e = ap (λ x. past blank (x ++ v)) h ∙ e ∙ ap (λ x. x ++ v) (sym h)
 starts (s ∷ ss) u v solid h e =
-    ap (λ x. past blank (x ++ v)) h.4 ∙ past_stop blank s.byte ((h.0 ++ h.1) ++ v) solid.0 ∙ ap (λ x. x ++ v) (sym h.4)
+    ap (λ x. past blank (x ++ v)) h.4 ∙ past_stop blank (byte_of s) ((h.0 ++ h.1) ++ v) solid.0 ∙ ap (λ x. x ++ v) (sym h.4)
 
 over_gap : (loose : Bool) (g x : List ℕ) → Gap loose g → past blank x ≡ x → gap loose (g ++ x) ≡ x
 over_gap true g x h e = past_over blank g x h ∙ e
@@ -110,26 +110,26 @@ unfolding in_turn
 turn_reads [] u v solid h e = ap (λ x. good tt (x ++ v)) h
 turn_reads (s ∷ ss) u v solid h e =
     ap (λ x. in_turn (s ∷ ss) (x ++ v)) h.4
-    ∙ this_is s ss s.byte ((h.0 ++ h.1) ++ v) (eq-eqb s.byte s.byte refl)
-    ∙ ap (λ x. in_turn ss (gap s.loose x)) (append_assoc h.0 h.1 v)
-    ∙ ap (in_turn ss) (over_gap s.loose h.0 (h.1 ++ v) h.2 (starts ss h.1 v solid.1 h.3 e))
+    ∙ this_is s ss (byte_of s) ((h.0 ++ h.1) ++ v) (eq-eqb (byte_of s) (byte_of s) refl)
+    ∙ ap (λ x. in_turn ss (gap (is_loose s) x)) (append_assoc h.0 h.1 v)
+    ∙ ap (in_turn ss) (over_gap (is_loose s) h.0 (h.1 ++ v) h.2 (starts ss h.1 v solid.1 h.3 e))
     ∙ turn_reads ss h.1 v solid.1 h.3 e
 
 -- after a loose step no blank is left
 abbrev pub EndsLoose : List Step → Type 0
 EndsLoose [] = ⊥
-EndsLoose (s ∷ []) = s.loose ≡ true
+EndsLoose (s ∷ []) = is_loose s ≡ true
 EndsLoose (s ∷ z ∷ ss) = EndsLoose (z ∷ ss)
 
-past_by : (s : Step) (b : ℕ) (t rest : List ℕ) (x : Bool) → eqb b s.byte ≡ x → s.loose ≡ true → in_turn (s ∷ []) (b ∷ t) ≡ good tt rest → past blank rest ≡ rest
+past_by : (s : Step) (b : ℕ) (t rest : List ℕ) (x : Bool) → eqb b (byte_of s) ≡ x → is_loose s ≡ true → in_turn (s ∷ []) (b ∷ t) ≡ good tt rest → past blank rest ≡ rest
 unfolding in_turn
 past_by s b t rest true e l h =
-    let here : good tt (gap s.loose t) ≡ good tt rest = sym (this_is s [] b t e) ∙ h in
+    let here : good tt (gap (is_loose s) t) ≡ good tt rest = sym (this_is s [] b t e) ∙ h in
     let same : past blank t ≡ rest = sym (ap (λ y. gap y t) l) ∙ (cc) in
     subst (λ y. past blank y ≡ y) same (past_past blank t)
 past_by s b t rest false e l h = let z : bad Byte (b ∷ t) ≡ good tt rest = sym (this_isnt s [] b t e) ∙ h in never (cc)
 
-other_steps : (s z : Step) (ss : List Step) (b : ℕ) (t rest : List ℕ) (x : Bool) → eqb b s.byte ≡ x → in_turn (s ∷ z ∷ ss) (b ∷ t) ≡ good tt rest → in_turn (z ∷ ss) (gap s.loose t) ≡ good tt rest
+other_steps : (s z : Step) (ss : List Step) (b : ℕ) (t rest : List ℕ) (x : Bool) → eqb b (byte_of s) ≡ x → in_turn (s ∷ z ∷ ss) (b ∷ t) ≡ good tt rest → in_turn (z ∷ ss) (gap (is_loose s) t) ≡ good tt rest
 other_steps s z ss b t rest true e h = sym (this_is s (z ∷ ss) b t e) ∙ h
 other_steps s z ss b t rest false e h = let w : bad Byte (b ∷ t) ≡ good tt rest = sym (this_isnt s (z ∷ ss) b t e) ∙ h in never (cc)
 
@@ -137,6 +137,6 @@ pub turn_past : (ss : List Step) → EndsLoose ss → (t rest : List ℕ) → in
 unfolding in_turn
 turn_past [] l t rest h = absurd l
 turn_past (s ∷ []) l [] rest h = never (cc)
-turn_past (s ∷ []) l (b ∷ t) rest h = past_by s b t rest (eqb b s.byte) refl l h
+turn_past (s ∷ []) l (b ∷ t) rest h = past_by s b t rest (eqb b (byte_of s)) refl l h
 turn_past (s ∷ z ∷ ss) l [] rest h = never (cc)
-turn_past (s ∷ z ∷ ss) l (b ∷ t) rest h = turn_past (z ∷ ss) l (gap s.loose t) rest (other_steps s z ss b t rest (eqb b s.byte) refl h)
+turn_past (s ∷ z ∷ ss) l (b ∷ t) rest h = turn_past (z ∷ ss) l (gap (is_loose s) t) rest (other_steps s z ss b t rest (eqb b (byte_of s)) refl h)

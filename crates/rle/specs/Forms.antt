@@ -5,7 +5,7 @@ use Rattle.lines.specs.Lines.{blank, trimmed}
 use Rattle.rle.specs.declared.mark.Run.{Run}
 use Rattle.rle.specs.declared.phase.Step.{Step}
 use Rattle.rle.specs.Runs.{letter_of}
-use Rattle.rle.specs.Scans.{past, space}
+use Rattle.rle.specs.Scans.{past, space, byte_of, is_loose}
 use Rattle.rle.specs.Items.{before_width, before_height, before_rule}
 
 -- every byte passes a test
@@ -25,7 +25,7 @@ Gap false bs = bs ≡ []
 -- the bytes of some steps in turn, with any number of blanks after each loose one
 abbrev pub Spells : List Step → List ℕ → Type 0
 Spells [] t = t ≡ []
-Spells (s ∷ ss) t = (bs : List ℕ) × (u : List ℕ) × Gap s.loose bs × Spells ss u × (t ≡ s.byte ∷ (bs ++ u))
+Spells (s ∷ ss) t = (bs : List ℕ) × (u : List ℕ) × Gap (is_loose s) bs × Spells ss u × (t ≡ byte_of s ∷ (bs ++ u))
 
 -- a number of one to four digits without a leading zero
 abbrev pub Numeral : ℕ → List ℕ → Type 0

@@ -10,27 +10,21 @@ use Rattle.rle.specs.declared.phase.Cursor.{Cursor}
 use Rattle.rle.specs.declared.phase.Phase.{Phase}
 use Rattle.rle.specs.declared.phase.Phase.TheVariants.{Opening, Body, Failed}
 use Rattle.rle.specs.declared.phase.Step.{Step}
+use Rattle.rle.specs.declared.phase.Step.TheVariants.{Tight, Loose}
 use Rattle.rle.specs.Runs.{column_after, row_after, fitting}
 use Rattle.rle.specs.Scans.{Scan, good, bad, and_then, this_byte, past, space, in_turn, digit, numeral, size}
 
--- a byte, with or without blanks after it
-abbrev pub tight : ℕ → Step
-tight c = record { byte = c; loose = false }
-
-abbrev pub loosely : ℕ → Step
-loosely c = record { byte = c; loose = true }
-
 -- x =
 abbrev pub before_width : List Step
-before_width = loosely 120 ∷ loosely 61 ∷ []
+before_width = Loose 120 ∷ Loose 61 ∷ []
 
 -- , y =
 abbrev pub before_height : List Step
-before_height = loosely 44 ∷ loosely 121 ∷ loosely 61 ∷ []
+before_height = Loose 44 ∷ Loose 121 ∷ Loose 61 ∷ []
 
 -- , rule =
 abbrev pub before_rule : List Step
-before_rule = loosely 44 ∷ tight 114 ∷ tight 117 ∷ tight 108 ∷ loosely 101 ∷ loosely 61 ∷ []
+before_rule = Loose 44 ∷ Tight 114 ∷ Tight 117 ∷ Tight 108 ∷ Loose 101 ∷ Loose 61 ∷ []
 
 -- what a heading tells: width, height, the rule's text if any, and the bytes from where that starts or would start
 pub record Head : Type 0 where

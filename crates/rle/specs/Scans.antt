@@ -4,6 +4,7 @@ use Rattle.lines.specs.Lines.{blank}
 use Rattle.rle.specs.declared.fault.ReadCause.{ReadCause}
 use Rattle.rle.specs.declared.fault.ReadCause.TheVariants.{Byte, Size, Ended}
 use Rattle.rle.specs.declared.phase.Step.{Step}
+use Rattle.rle.specs.declared.phase.Step.TheVariants.{Tight, Loose}
 
 -- what was read and the bytes after it, or why the text is at fault and the bytes from the fault on
 pub data Scan (A : Type 0) : Type 0 where
@@ -34,10 +35,20 @@ abbrev pub gap : Bool → List ℕ → List ℕ
 gap true t = past blank t
 gap false t = t
 
+-- the byte of a step
+abbrev pub byte_of : Step → ℕ
+byte_of (Tight c) = c
+byte_of (Loose c) = c
+
+-- whether blanks may follow it
+abbrev pub is_loose : Step → Bool
+is_loose (Tight c) = false
+is_loose (Loose c) = true
+
 -- bytes that have to come in turn
 unfoldable pub in_turn : List Step → List ℕ → Scan (Unit {0})
 in_turn [] t = good tt t
-in_turn (s ∷ ss) t = and_then (this_byte s.byte t) (λ _ rest. in_turn ss (gap s.loose rest))
+in_turn (s ∷ ss) t = and_then (this_byte (byte_of s) t) (λ _ rest. in_turn ss (gap (is_loose s) rest))
 
 -- a decimal digit
 abbrev pub digit : ℕ → Bool
