@@ -5,4 +5,4 @@ mod fault;
 mod putting;
 
 pub use fault::PageFault;
-pub use putting::{put, put_number};
+pub use putting::{put, put_number, write_text};

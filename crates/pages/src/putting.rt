@@ -1,30 +1,32 @@
-ghost use Rattle.pages.specs.Pages.{PlacedIfFits};
+ghost use Rattle.pages.specs.Pages.{PlacedIfFits, Written};
 ghost use Rattle.std.specs.Prelude.{decimal};
 
-use numbers::write_decimal;
+use crate::fault::PageFault;
+use itoa::Buffer;
 
-// Writes bytes from a place on, and answers the place after them. Where they do not fit, the page is
-// as it was and the place stays.
+// Writes a text into the page from a place on, and answers the place after it. Where the text does not fit,
+// the page is as it was.
+pub fn write_text(page: &mut [u8], at: usize, text: &[u8]) -> Result<usize, PageFault>
+    ensures { Written page.old at text.now page.new result }
+{
+    if at > page.len() || page.len() - at < text.len() {
+        return Err(PageFault::Short);
+    }
+    let end = at + text.len();
+    page[at..end].copy_from_slice(text);
+    Ok(end)
+}
+
+// The same for a caller that goes on: where the bytes do not fit, the place stays.
 pub fn put(page: &mut [u8], at: usize, bytes: &[u8]) -> usize
     ensures { PlacedIfFits page.old at bytes.now page.new result }
 {
-    if at > page.len() || page.len() - at < bytes.len() {
-        return at;
-    }
-    let end = at + bytes.len();
-    page[at..end].copy_from_slice(bytes);
-    end
+    write_text(page, at, bytes).unwrap_or(at)
 }
 
 // The same with a number's digits.
 pub fn put_number(page: &mut [u8], at: usize, n: u64) -> usize
     ensures { PlacedIfFits page.old at (decimal n) page.new result }
 {
-    if at > page.len() {
-        return at;
-    }
-    match write_decimal(&mut page[at..], n) {
-        Some(len) => at + len,
-        None => at,
-    }
+    put(page, at, Buffer::new().format(n).as_bytes())
 }
