@@ -4,3 +4,4 @@ pub mod Joins
 pub mod Labels
 pub mod Needed
 pub mod Numbers
+pub mod Ties

@@ -10,6 +10,7 @@ ghost use Rattle.std.specs.List.{range_with_len};
 use crate::classes::{Classes, Musts};
 use crate::musts::{count_free, note_all};
 use crate::numbering::Numbering;
+use crate::ties::Ties;
 use crate::uniting::join;
 use planes::{Plane, Space};
 use std::alloc::{AllocError, Global};
@@ -29,10 +30,8 @@ fn join_all<S: Space>(labels: &mut [u16], space: &S)
     ensures low { Low labels.new }
     ensures inside { TiesInside (surface (S.Plane.means space.now) (S.Space.count space.now) (S.Space.tied space.now)) }
 {
-    let cells = space.frame().cells();
-    for tie in 0..space.rows() * cells {
-        let cell = tie % cells;
-        join(labels, cell as usize, space.tie(tie / cells, cell));
+    for (cell, tie) in Ties::of(space) {
+        join(labels, cell as usize, tie);
     }
 }
 

@@ -7,6 +7,7 @@ mod laws;
 mod musts;
 mod numbering;
 mod reading;
+mod ties;
 mod uniting;
 
 pub use classes::{Classes, Musts};

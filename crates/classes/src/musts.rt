@@ -4,6 +4,7 @@ ghost use Rattle.frames.specs.Frames.{cells};
 ghost use Rattle.classes.specs.Asked.{asked_after, asked_by, free_among, torn_among, unasked};
 
 use crate::classes::Musts;
+use crate::ties::Ties;
 use planes::{Plane, Space, Tie};
 
 impl Musts {
@@ -42,10 +43,8 @@ pub(crate) fn note_all<S: Space>(musts: &mut [Musts], labels: &[u16], space: &S)
     ensures len { length musts.new ≡ length musts.old }
     ensures value { musts.old ≡ replicate (length musts.old) unasked → musts.new ≡ asked_after (S.Space.tied space.now) (cells (S.Plane.means space.now).frame) labels.now (length musts.old) (S.Space.count space.now * cells (S.Plane.means space.now).frame) }
 {
-    let cells = space.frame().cells();
-    for tie in 0..space.rows() * cells {
-        let cell = tie % cells;
-        note(musts, labels[cell as usize], space.tie(tie / cells, cell));
+    for (cell, tie) in Ties::of(space) {
+        note(musts, labels[cell as usize], tie);
     }
 }
 

@@ -1,5 +1,5 @@
 -- The solutions of a space's system are the fillings that keep its ties and the rule.
-use Rattle.std.proofs.Common.{◌≡◌, ℕ, zero, suc, ◌+◌, ◌<◌, ◌≤◌, Bool, true, false, cond, ◌&&◌, ◌||◌, ltb, ◌⊎◌, List, [], ◌∷◌, map, length, get_or, ℤ, ◌+ℤ◌, ◌-ℤ◌, Some, None, Option, sym, refl, ap, ◌∙◌, subst, ap₂, inl, inr, arith}
+use Rattle.std.proofs.Common.{◌≡◌, ℕ, zero, suc, ◌+◌, ◌<◌, ◌≤◌, Bool, true, false, cond, not, ◌&&◌, ◌||◌, ltb, ◌⊎◌, List, [], ◌∷◌, map, length, get_or, ℤ, ◌+ℤ◌, ◌-ℤ◌, Some, None, Option, sym, refl, ap, ◌∙◌, subst, ap₂, inl, inr, arith}
 use lib.ListN.{length-map}
 use Rattle.std.proofs.lemmas.List.{ext_get_or, get_or-map, get_or_append_left, get_or_push, get_or_past, get_or_default, length_push}
 use Rattle.std.proofs.lemmas.List.FromFn.{length-map-range_with_len, get_or-map-range_with_len}
@@ -106,7 +106,7 @@ untorn_each [] x e = refl
 untorn_each (m ∷ ms) zero e = (or_parts (m.off && m.on) (torn_among ms) e).0
 untorn_each (m ∷ ms) (suc x) e = untorn_each ms x (or_parts (m.off && m.on) (torn_among ms) e).1
 
-free_one : (off on : Bool) → unknown_one (cond off Off (cond on On Unknown)) ≡ cond (off || on) 0 1
+free_one : (off on : Bool) → unknown_one (cond off Off (cond on On Unknown)) ≡ cond (not (off || on)) 1 0
 free_one true on = refl
 free_one false true = refl
 free_one false false = refl

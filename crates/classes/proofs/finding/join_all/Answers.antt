@@ -1,46 +1,64 @@
-use Rattle.std.proofs.Common.{◌≡◌, ◌+◌, ◌*◌, ◌/◌, ◌%◌, ◌<◌, length, sym, ap, ◌∙◌, subst, mul_comm, arith, rules, below_more}
-use Rattle.std.proofs.lemmas.Nat.{div-mul-add, mod_below, mod-mul-add, mul-add-lt}
+use Rattle.std.proofs.Common.{◌≡◌, ◌*◌, ◌/◌, ◌%◌, ◌<◌, length, sym, ap, ◌∙◌, subst, arith, rules, below_more}
+use Rattle.std.proofs.lemmas.Nat.{mod_below}
 use Rattle.std.proofs.lemmas.List.FromFn.{length-range_with_len}
 use Rattle.std.specs.List.{range_with_len}
 use Rattle.frames.specs.Frames.{cells}
 use Rattle.planes.specs.Ties.{Within}
 use Rattle.classes.specs.Labels.{Low, labels_after}
-use Rattle.classes.proofs.United.{after_none, after_more, counting_low, low_lowered}
+use Rattle.classes.proofs.United.{after_none, after_more, counting_low, low_lowered, each_row}
 use Rattle.classes.proofs.finding.join_all.Goals as goal
 
-pub loop-tie-init : goal.loop-tie-init
-loop-tie-init g c =
-    let size : c.cells-cells.result ≡ cells (g.S.Plane.means c.args.space.now).frame = c.cells-cells.ensures ∙ ap cells c.frame.ensures in
-    (after_none _ c.cells-cells.result c.args.labels.now (c.requires ∙ ap (range_with_len 0) (sym size)), subst Low (sym c.requires) (counting_low _), λ k h. absurd (omega arith))
+pub loop-cell-init : goal.loop-cell-init
+loop-cell-init g c =
+    let ties = c.into_iter-cell-iterator.result in
+    let space : ties.space.now ≡ c.args.space.now = search rules in
+    let first : ties.next ≡ 0 = search rules in
+    let size : ties.size ≡ cells (g.S.Plane.means c.args.space.now).frame = ties.sized ∙ ap (λ s. cells (g.S.Plane.means s).frame) space in
+    record {
+      space = space;
+      reached = omega (arith, first);
+      value = after_none _ ties.size ties.next c.args.labels.now first (c.requires ∙ ap (range_with_len 0) (sym size));
+      low = subst Low (sym c.requires) (counting_low _);
+      inside = λ k h. absurd {A = Within ties.size (g.S.Space.tied c.args.space.now (k / ties.size) (k % ties.size))} (omega (arith, first));
+    }
 
 pub join-requires : goal.join-requires
 join-requires g c =
-    let size : c.cells-cells.result ≡ cells (g.S.Plane.means c.args.space.now).frame = c.cells-cells.ensures ∙ ap cells c.frame.ensures in
-    let long : length c.loop-tie.labels ≡ c.cells-cells.result = c.loop-tie.auto.labels ∙ ap length c.requires ∙ length-range_with_len 0 _ ∙ sym size in
-    let some : 0 < c.cells-cells.result = search rules in
-    (subst (λ n. c.loop-tie.tie % c.cells-cells.result < n) (sym long) (mod_below c.loop-tie.tie c.cells-cells.result some), subst (λ n. Within n c.tie.result) (sym size ∙ sym long) c.tie.ensures.1.within)
+    let ties = c.loop-cell.cell-iterator in
+    let taken = c.in-Some.ensures.steps.3 in
+    let size : ties.size ≡ cells (g.S.Plane.means c.args.space.now).frame = ties.sized ∙ ap (λ s. cells (g.S.Plane.means s).frame) c.loop-cell.invariant.space in
+    let long : length c.loop-cell.labels ≡ ties.size = c.loop-cell.auto.labels ∙ ap length c.requires ∙ length-range_with_len 0 _ ∙ sym size in
+    (omega (arith, long, taken.cell, mod_below ties.next ties.size ties.some), subst (λ n. Within n c.in-Some.tie) (sym long) taken.within)
 
-pub loop-tie-preserved : goal.loop-tie-preserved
-loop-tie-preserved g c =
-    let inv = c.loop-tie.invariant in
-    let size : c.cells-cells.result ≡ cells (g.S.Plane.means c.args.space.now).frame = c.cells-cells.ensures ∙ ap cells c.frame.ensures in
-    let here = subst (λ n. Within n c.tie.result) (sym size) c.tie.ensures.1.within in
-    (after_more _ c.cells-cells.result c.loop-tie.tie c.loop-tie.labels c.join.new.labels c.tie.result inv.0 c.tie.ensures.0 c.join.ensures.value, low_lowered c.loop-tie.labels c.join.new.labels inv.1 c.join.ensures.lower, below_more _ c.loop-tie.tie inv.2 (subst (Within c.cells-cells.result) c.tie.ensures.0 here))
+pub loop-cell-preserved : goal.loop-cell-preserved
+loop-cell-preserved g c =
+    let inv = c.loop-cell.invariant in
+    let step = c.in-Some.ensures.steps in
+    let taken = step.3 in
+    let tied = g.S.Space.tied c.args.space.now in
+    let n = c.loop-cell.cell-iterator.next in
+    let size = c.loop-cell.cell-iterator.size in
+    let asks : c.in-Some.tie ≡ tied (n / size) (n % size) = taken.asks ∙ ap (λ s. g.S.Space.tied s (n / size) (n % size)) inv.space in
+    let inside = below_more _ n inv.inside (subst (Within size) asks taken.within) in
+    record {
+      space = ap (λ s. s.now) step.0 ∙ inv.space;
+      reached = omega (arith, step.2, taken.below, taken.onward);
+      value = after_more tied size n _ c.in-Some.cell _ _ _ inv.value taken.onward taken.cell asks c.join.ensures.value ∙ ap (λ k. labels_after tied k c.next.new.self.next) (sym step.1);
+      low = low_lowered c.loop-cell.labels c.join.new.labels inv.low c.join.ensures.lower;
+      inside = λ k h. subst (λ s. Within s (tied (k / s) (k % s))) (sym step.1) (inside k (omega (arith, taken.onward)));
+    }
 
 pub returns : goal.returns
 returns g c =
-    let inv = c.loop-tie.invariant in
-    let size : c.cells-cells.result ≡ cells (g.S.Plane.means c.args.space.now).frame = c.cells-cells.ensures ∙ ap cells c.frame.ensures in
-    let last : c.loop-tie.tie ≡ c.rows.result * c.cells-cells.result = omega (arith, c.loop-tie-test.false, c.loop-tie.auto.tie-end) in
+    let inv = c.loop-cell.invariant in
+    let ties = c.loop-cell.cell-iterator in
+    let tied = g.S.Space.tied c.args.space.now in
+    let rows = g.S.Space.count c.args.space.now in
+    let size : ties.size ≡ cells (g.S.Plane.means c.args.space.now).frame = ties.sized ∙ ap (λ s. cells (g.S.Plane.means s).frame) inv.space in
+    let ended : ties.«end» ≡ rows * ties.size = ties.ended ∙ ap (λ s. g.S.Space.count s * ties.size) inv.space in
+    let last : ties.next ≡ rows * ties.size = omega (arith, ended, inv.reached, c.in-None.ensures.steps.3) in
     record {
-      value = inv.0 ∙ ap (labels_after (g.S.Space.tied c.args.space.now) c.cells-cells.result) last ∙ (λ i. labels_after (g.S.Space.tied c.args.space.now) (size i) (c.rows.ensures.0 i * size i));
-      low = inv.1;
-      inside = λ row cell h k.
-          let few : row < c.rows.result = subst (λ n. row < n) (sym c.rows.ensures.0) h in
-          let here : cell < c.cells-cells.result = subst (λ n. cell < n) (sym size) k in
-          let at : row * c.cells-cells.result + cell < c.cells-cells.result * c.rows.result = mul-add-lt row c.cells-cells.result cell c.rows.result few here in
-          let within = inv.2 (row * c.cells-cells.result + cell) (omega (arith, at, mul_comm c.cells-cells.result c.rows.result)) in
-          subst (λ n. Within n (g.S.Space.tied c.args.space.now row cell)) size
-          (subst (λ r. Within c.cells-cells.result (g.S.Space.tied c.args.space.now r cell)) (div-mul-add row c.cells-cells.result cell here)
-          (subst (λ x. Within c.cells-cells.result (g.S.Space.tied c.args.space.now ((row * c.cells-cells.result + cell) / c.cells-cells.result) x)) (mod-mul-add row c.cells-cells.result cell here) within));
+      value = inv.value ∙ ap (labels_after tied ties.size) last ∙ (λ i. labels_after tied (size i) (rows * size i));
+      low = inv.low;
+      inside = subst (λ n. (row c : _) → row < rows → c < n → Within n (tied row c)) size (each_row tied ties.size rows (λ k h. inv.inside k (omega (arith, last))));
     }

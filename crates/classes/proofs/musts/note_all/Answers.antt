@@ -1,21 +1,24 @@
-use Rattle.std.proofs.Common.{◌≡◌, ℕ, ◌*◌, length, refl, ap, ◌∙◌, arith}
-use Rattle.frames.specs.Frames.{cells}
+use Rattle.std.proofs.Common.{◌≡◌, ◌/◌, ◌%◌, length, sym, ap, ◌∙◌, arith, rules}
 use Rattle.classes.specs.Asked.{asked_after}
 use Rattle.classes.proofs.Asking.{asked_none, asked_more}
 use Rattle.classes.proofs.musts.note_all.Goals as goal
 
-pub loop-tie-init : goal.loop-tie-init
-loop-tie-init g c e = asked_none _ _ _ _ _ e
+pub loop-cell-init : goal.loop-cell-init
+loop-cell-init g c =
+    let first : c.into_iter-cell-iterator.result.next ≡ 0 = search rules in
+    record { space = search rules; reached = omega (arith, first); asked = λ e. asked_none _ _ _ _ _ _ first e }
 
-pub loop-tie-preserved : goal.loop-tie-preserved
-loop-tie-preserved g c e = asked_more _ c.cells-cells.result c.args.labels.now _ c.loop-tie.tie _ c.loop-tie.musts c.note.new.musts c.tie.result (c.loop-tie.invariant e) refl c.tie.ensures.0 c.note.ensures
-
-pub returns : goal.returns
-returns g c =
-    let size : c.cells-cells.result ≡ cells (g.S.Plane.means c.args.space.now).frame = c.cells-cells.ensures ∙ ap cells c.frame.ensures in
-    let last : c.loop-tie.tie ≡ c.rows.result * c.cells-cells.result = omega (arith, c.loop-tie-test.false, c.loop-tie.auto.tie-end) in
-    let asked : ℕ → ℕ → _ = λ n m. asked_after (g.S.Space.tied c.args.space.now) n c.args.labels.now (length c.args.musts.now) m in
+pub loop-cell-preserved : goal.loop-cell-preserved
+loop-cell-preserved g c =
+    let inv = c.loop-cell.invariant in
+    let step = c.in-Some.ensures.steps in
+    let taken = step.3 in
+    let tied = g.S.Space.tied c.args.space.now in
+    let n = c.loop-cell.cell-iterator.next in
+    let size = c.loop-cell.cell-iterator.size in
+    let asks : c.in-Some.tie ≡ tied (n / size) (n % size) = taken.asks ∙ ap (λ s. g.S.Space.tied s (n / size) (n % size)) inv.space in
     record {
-      len = c.loop-tie.auto.musts;
-      value = λ e. c.loop-tie.invariant e ∙ ap (asked c.cells-cells.result) last ∙ (λ i. asked (size i) (c.rows.ensures.0 i * size i));
+      space = ap (λ s. s.now) step.0 ∙ inv.space;
+      reached = omega (arith, step.2, taken.below, taken.onward);
+      asked = λ e. asked_more tied size c.args.labels.now _ n _ c.in-Some.cell _ _ _ (inv.asked e) taken.onward taken.cell asks c.note.ensures ∙ ap (λ k. asked_after tied k c.args.labels.now (length c.args.musts.now) c.next.new.self.next) (sym step.1);
     }
