@@ -1,6 +1,7 @@
 ghost use Rattle.rolls.specs.Examples.{RollsWorked};
 ghost use Rattle.rolls.specs.Laws.{OrderLaws, RollLaws};
-ghost use Rattle.rolls.specs.Rolls.{Lawful};
+ghost use Rattle.rolls.specs.Rolls.{Lawful, around};
+ghost use Rattle.planes.specs.declared.neighbours.TheConstants.{NEIGHBOURS};
 ghost use Rattle.std.specs.Prelude.{◌≡◌};
 
 use planes::{Plane, Space};
@@ -32,3 +33,8 @@ pub fn worked_rolls_stand() -> u8
 {
     0
 }
+
+// The neighbours that the roll speaks of are those of the program's list.
+pub fn neighbours_stand()
+    ensures { NEIGHBOURS ≡ around }
+{}
