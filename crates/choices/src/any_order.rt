@@ -14,7 +14,7 @@ pub enum AnyOrder {
     Generations,
 }
 
-// Kept as a match in each call: no `dyn` value is handed out, and an enum is the choice that is left.
+// A match in each call: a choice at run time without `dyn` has no plainer form.
 impl Order for AnyOrder {
     ghost cell_of_rank = { chosen_cell };
 

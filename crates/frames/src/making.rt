@@ -7,17 +7,10 @@ use crate::frame::{Cell, Frame};
 // Whether a drift keeps its limits.
 fn slow_enough(d: i32) -> bool
     ensures test { result ≡ slow d }
-    ensures bounds { T result → (negsuc 7 ≤ℤ d) × (d ≤ℤ pos 8) }
+    ensures above { T result → negsuc 7 ≤ℤ d }
+    ensures below { T result → d ≤ℤ pos 8 }
 {
-    -8 <= d && d <= 8
-}
-
-// Whether both drifts do.
-fn both_slow(dx: i32, dy: i32) -> bool
-    ensures test { result ≡ (slow dx && slow dy) }
-    ensures bounds { T result → (negsuc 7 ≤ℤ dx) × (dx ≤ℤ pos 8) × (negsuc 7 ≤ℤ dy) × (dy ≤ℤ pos 8) }
-{
-    slow_enough(dx) && slow_enough(dy)
+    (-8..=8).contains(&d)
 }
 
 impl Frame {
@@ -25,16 +18,16 @@ impl Frame {
     pub fn new(width: u32, height: u32, period: u32, dx: i32, dy: i32) -> Result<Frame, FrameFault>
         ensures { shown result ≡ built width height period dx dy }
     {
-        if width < 1 || width > 32 || height < 1 || height > 32 {
+        if !(1..=32).contains(&width) || !(1..=32).contains(&height) {
             return Err(FrameFault::Size);
         }
-        if period < 1 || period > 16 {
+        if !(1..=16).contains(&period) {
             return Err(FrameFault::Period);
         }
         if width * height * period > 4096 {
             return Err(FrameFault::Cells);
         }
-        if !both_slow(dx, dy) {
+        if !slow_enough(dx) || !slow_enough(dy) {
             return Err(FrameFault::Drift);
         }
         Ok(Frame {

@@ -5,7 +5,8 @@ use Rattle.std.proofs.lemmas.Nat.{mod_below}
 use Rattle.frames.specs.declared.frame.Frame.{Frame}
 use Rattle.frames.specs.Frames.{cells}
 use Rattle.orders.specs.Orders.{places_cell, places_rank}
-use Rattle.orders.specs.Radix.{joined, joined_digits, joined_below, high_below, last_of, middle_of, first_of, last_first, first_swapped}
+use Rattle.frames.specs.Radix.{joined, joined_digits, joined_below, high_below, last_of, middle_of, first_of, first_swapped}
+use Rattle.frames.proofs.Cells.{number_below, generation_below, column_back, row_back, generation_back, number_back}
 
 -- a way to number the cells of a box: from column, row and generation to a number and back
 pub record Numbering (w h p : ℕ) : Type 0 where
@@ -48,14 +49,14 @@ module _ (w h p : ℕ) (pw : 0 < w) (ph : 0 < h) (pp : 0 < p) where
     column = λ n. n % w;
     row = λ n. n / w % h;
     generation = λ n. n / w / h;
-    number_below = λ x y t hx hy ht. subst (λ n. joined h w t y x < n) (last_first w h p) (joined_below p h w t y x ht hy hx);
+    number_below = number_below w h p;
     column_below = λ n less. mod_below n w pw;
     row_below = λ n less. mod_below (n / w) h ph;
-    generation_below = λ n less. high_below p h w n ph pw (subst (λ m. n < m) (sym (last_first w h p)) less);
-    column_of = λ x y t hx hy ht. last_of h w t y x hx;
-    row_of = λ x y t hx hy ht. middle_of h w t y x hy hx;
-    generation_of = λ x y t hx hy ht. first_of h w t y x hy hx;
-    number_of = joined_digits h w;
+    generation_below = λ n less. generation_below w h p n pw ph less;
+    column_of = λ x y t hx hy ht. column_back w h x y t hx hy;
+    row_of = λ x y t hx hy ht. row_back w h x y t hx hy;
+    generation_of = λ x y t hx hy ht. generation_back w h x y t hx hy;
+    number_of = number_back w h;
   }
 
   -- by row, column and generation

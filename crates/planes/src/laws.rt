@@ -1,10 +1,14 @@
+ghost use Rattle.frames.specs.declared.frame.Frame.{Frame};
+ghost use Rattle.planes.specs.Layers.{kind_of, mirror_tie};
 ghost use Rattle.planes.specs.Looks.{plain, torus, cylinder};
 ghost use Rattle.planes.specs.declared.sheet.Sheet.{Sheet};
 ghost use Rattle.planes.specs.declared.axis.Bounded.{Bounded};
 ghost use Rattle.planes.specs.declared.axis.Round.{Round};
-ghost use Rattle.std.specs.Prelude.{◌≡◌};
+ghost use Rattle.std.specs.Prelude.{◌≡◌, ℕ};
 
+use crate::mirror::MirrorKind;
 use crate::plane::Plane;
+use crate::row::Row;
 use crate::sheet::{Cylinder, Plain, Torus};
 
 // Each of the three planes means what its name says, over any frame.
@@ -12,4 +16,9 @@ pub fn planes_stand()
     ensures plain { (p : Sheet Bounded Bounded) → ⟦<Plain as Plane>⟧.means p ≡ plain p.frame }
     ensures torus { (p : Sheet Round Round) → ⟦<Torus as Plane>⟧.means p ≡ torus p.frame }
     ensures cylinder { (p : Sheet Round Bounded) → ⟦<Cylinder as Plane>⟧.means p ≡ cylinder p.frame }
+{}
+
+// A mirror of the kind of a number asks what is defined for that number.
+pub fn mirrors_stand()
+    ensures { (f : Frame) (number cell : ℕ) → ⟦<MirrorKind as Row>⟧.asked (kind_of number) f cell ≡ mirror_tie f number cell }
 {}

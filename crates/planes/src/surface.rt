@@ -10,6 +10,7 @@ use frames::Frame;
 pub type Surface = Sheet<Edge, Edge>;
 
 impl Sheet<Edge, Edge> {
+    // Looks as `Plain`.
     pub fn plain(frame: Frame) -> Surface
         ensures { ⟦<Surface as Plane>⟧.means result ≡ plain frame }
     {
@@ -21,6 +22,7 @@ impl Sheet<Edge, Edge> {
         }
     }
 
+    // Looks as `Torus`.
     pub fn torus(frame: Frame) -> Surface
         ensures { ⟦<Surface as Plane>⟧.means result ≡ torus frame }
     {
@@ -32,6 +34,7 @@ impl Sheet<Edge, Edge> {
         }
     }
 
+    // Looks as `Cylinder`.
     pub fn cylinder(frame: Frame) -> Surface
         ensures { ⟦<Surface as Plane>⟧.means result ≡ cylinder frame }
     {

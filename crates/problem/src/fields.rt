@@ -1,4 +1,4 @@
-ghost use Rattle.std.specs.Prelude.{◌≤◌, IfErr, MatchResult};
+ghost use Rattle.std.specs.Prelude.{IfErr};
 ghost use Rattle.problem.specs.Faults.{OfLine};
 
 use crate::fault::Cause;
@@ -17,11 +17,11 @@ pub(crate) fn value_of<'a>(line: Option<&'a [u8]>, key: &[u8]) -> Result<&'a [u8
 }
 
 // A number from 0 to 9,999, without leading zeros.
-pub(crate) fn number(word: &[u8]) -> Result<u32, Cause>
-    ensures { MatchResult result (λ n. n ≤ 9999) OfLine }
+pub(crate) fn number(word: &[u8]) -> Result<u16, Cause>
+    ensures { IfErr result OfLine }
 {
     match read_decimal(word) {
-        Some(n) if n <= 9999 => Ok(n as u32),
+        Some(n) if n <= 9999 => Ok(n as u16),
         _ => Err(Cause::Form),
     }
 }
@@ -33,9 +33,9 @@ pub(crate) fn signed(word: &[u8]) -> Result<i32, Cause>
     match word {
         [b'-', digits @ ..] => match number(digits)? {
             0 => Err(Cause::Form),
-            n => Ok(-(n as i32)),
+            n => Ok(-i32::from(n)),
         },
-        _ => Ok(number(word)? as i32),
+        _ => Ok(i32::from(number(word)?)),
     }
 }
 

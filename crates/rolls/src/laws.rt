@@ -1,6 +1,7 @@
 ghost use Rattle.rolls.specs.Examples.{RollsWorked};
 ghost use Rattle.rolls.specs.Laws.{OrderLaws, RollLaws};
-ghost use Rattle.rolls.specs.Rolls.{Lawful, surface};
+ghost use Rattle.rolls.specs.Rolls.{Lawful, around, surface};
+ghost use Rattle.planes.specs.declared.neighbours.TheConstants.{NEIGHBOURS};
 ghost use Rattle.std.specs.Prelude.{◌≡◌};
 
 use planes::{Plane, Space};
@@ -23,4 +24,9 @@ pub fn surface_stands<S: Space>(space: &S)
 // The worked examples of the roll stand.
 pub fn worked_rolls_stand()
     ensures { RollsWorked }
+{}
+
+// The neighbours that the roll speaks of are those of the program's list.
+pub fn neighbours_stand()
+    ensures { NEIGHBOURS ≡ around }
 {}

@@ -3,4 +3,6 @@
 
 mod laws;
 
-pub use laws::{order_laws_stand, roll_laws_stand, surface_stands, worked_rolls_stand};
+pub use laws::{
+    neighbours_stand, order_laws_stand, roll_laws_stand, surface_stands, worked_rolls_stand,
+};

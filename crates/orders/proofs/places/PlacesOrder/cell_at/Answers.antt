@@ -1,6 +1,6 @@
 use Rattle.std.proofs.Common.{rules, ◌/◌, ◌%◌, ◌*◌, ◌<◌, arith}
 use Rattle.orders.specs.Turns.{by_row, by_column}
-use Rattle.orders.proofs.Numbered.{numbered}
+use Rattle.frames.proofs.Cells.{numbered}
 use Rattle.orders.proofs.places.PlacesOrder.cell_at.Goals.{then-this-ne0, else-this-ne0}
 use Rattle.orders.proofs.places.PlacesOrder.cell_at.Goals as goal
 
