@@ -1,11 +1,11 @@
 // Reads a problem from standard input and lists its finds, or says why it is refused.
 #![tactic(auto)]
 
-use anyhow::anyhow;
-use listing::{ListFault, PAGE_SIZE, Sink, list_page};
+use anyhow::bail;
+use listing::{Closed, PAGE_SIZE, Sink, list_page};
 use printing::write_refused;
 use problem::{Problem, ProblemFault, read_problem};
-use search::{OpenFault, Search};
+use search::Search;
 use std::io::{Read, Write};
 
 // One byte more than a problem may have, so that a longer input is seen to be too long.
@@ -22,64 +22,49 @@ struct Printer<'a> {
 }
 
 impl Printer<'_> {
-    // Prints what is held; false where the output is closed.
-    fn print(&mut self) -> bool {
+    // Prints what is held.
+    fn print(&mut self) -> Result<(), Closed> {
         let mut out = self.rt.stdout();
-        let done = out.write_all(self.held.as_slice()).is_ok();
+        let written = out.write_all(self.held.as_slice());
         self.held.clear();
-        done && out.flush().is_ok()
+        written.and_then(|()| out.flush()).map_err(|_| Closed)
     }
 }
 
 impl Sink for Printer<'_> {
-    fn take(&mut self, text: &[u8]) -> bool {
-        if self.held.len() >= HELD && !self.print() {
-            return false;
+    fn take(&mut self, text: &[u8]) -> Result<(), Closed> {
+        if self.held.len() >= HELD {
+            self.print()?;
         }
-        self.held.extend_from_slice(text).is_ok()
+        self.held.extend_from_slice(text).map_err(|_| Closed)
     }
 
-    fn rest(&mut self) -> bool {
-        self.held.is_empty() || self.print()
-    }
-}
-
-// The word for what went wrong with the machine.
-fn word_of(fault: ListFault) -> &'static str {
-    match fault {
-        ListFault::Closed => "the output is closed",
-        ListFault::Endless => "the search did not end",
-        _ => "the search was refused",
+    fn rest(&mut self) -> Result<(), Closed> {
+        if self.held.is_empty() {
+            return Ok(());
+        }
+        self.print()
     }
 }
 
 fn refuse(rt: &HostRuntime, fault: &ProblemFault) -> anyhow::Result<()> {
     let mut page = [0u8; 64];
     let Ok(end) = write_refused(&mut page, 0, fault) else {
-        return Err(anyhow!("no room for the refusal"));
+        bail!("no room for the refusal");
     };
-    if end > page.len() {
-        return Err(anyhow!("no room for the refusal"));
-    }
-    rt.stdout().write_all(&page[0..end])?;
+    rt.stdout().write_all(&page[..end])?;
     Ok(())
 }
 
 fn list(rt: &HostRuntime, problem: &Problem) -> anyhow::Result<()> {
     let heap = rt.alloc();
     let mut search = Search::blank();
-    match search.open(heap, &problem.space, &problem.order, &problem.rule) {
-        Ok(()) => {}
-        Err(OpenFault::Memory) => return Err(anyhow!("no memory")),
-        Err(_) => return Err(anyhow!("the search was not opened")),
-    }
+    search.open(heap, &problem.space, &problem.order, &problem.rule)?;
     let mut page = [0u8; PAGE_SIZE];
     let held = Vec::with_capacity(heap, HELD)?;
     let mut printer = Printer { rt, held };
-    match list_page(&mut search, &mut page, &mut printer) {
-        Ok(()) => Ok(()),
-        Err(fault) => Err(anyhow!(word_of(fault))),
-    }
+    list_page(&mut search, &mut page, &mut printer)?;
+    Ok(())
 }
 
 fn run(rt: &HostRuntime) -> anyhow::Result<()> {

@@ -1,8 +1,14 @@
+ghost use Rattle.listing.specs.declared.fault.ListFault.TheVariants as listing;
+ghost use Rattle.std.specs.Prelude.{◌≡◌};
+
+use crate::sink::Closed;
 use search::{GoFault, TallyFault, WriteFault};
+use std::error::Error;
+use std::fmt;
 use texts::PageFault;
 
 // Why a page was not listed to its end.
-#[derive(Clone, Copy)]
+#[derive(Clone, Copy, PartialEq, Eq, Debug)]
 pub enum ListFault {
     // the search refused to go
     Go(GoFault),
@@ -19,25 +25,56 @@ pub enum ListFault {
 }
 
 impl From<GoFault> for ListFault {
-    fn from(fault: GoFault) -> ListFault {
-        ListFault::Go(fault)
+    ghost from_gives = { λ go fault. fault ≡ listing.Go go };
+
+    fn from(go: GoFault) -> ListFault {
+        ListFault::Go(go)
     }
 }
 
 impl From<WriteFault> for ListFault {
-    fn from(fault: WriteFault) -> ListFault {
-        ListFault::Write(fault)
+    ghost from_gives = { λ write fault. fault ≡ listing.Write write };
+
+    fn from(write: WriteFault) -> ListFault {
+        ListFault::Write(write)
     }
 }
 
 impl From<TallyFault> for ListFault {
-    fn from(fault: TallyFault) -> ListFault {
-        ListFault::Tally(fault)
+    ghost from_gives = { λ tally fault. fault ≡ listing.Tally tally };
+
+    fn from(tally: TallyFault) -> ListFault {
+        ListFault::Tally(tally)
     }
 }
 
 impl From<PageFault> for ListFault {
-    fn from(fault: PageFault) -> ListFault {
-        ListFault::Foot(fault)
+    ghost from_gives = { λ page fault. fault ≡ listing.Foot page };
+
+    fn from(page: PageFault) -> ListFault {
+        ListFault::Foot(page)
     }
 }
+
+impl From<Closed> for ListFault {
+    ghost from_gives = { λ _ fault. fault ≡ listing.Closed };
+
+    fn from(_closed: Closed) -> ListFault {
+        ListFault::Closed
+    }
+}
+
+// What went wrong with the machine; the refusals of a search are a mistake of its caller.
+impl fmt::Display for ListFault {
+    fn fmt<W: fmt::Write>(&self, f: &mut fmt::Formatter<W>) -> fmt::Result {
+        match self {
+            ListFault::Closed => write!(f, "the output is closed"),
+            ListFault::Endless => write!(f, "the search did not end"),
+            ListFault::Go(_) | ListFault::Write(_) | ListFault::Tally(_) | ListFault::Foot(_) => {
+                write!(f, "the search was refused")
+            }
+        }
+    }
+}
+
+impl Error for ListFault {}

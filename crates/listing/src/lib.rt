@@ -3,6 +3,8 @@
 
 mod fault;
 mod page;
+mod sink;
 
 pub use fault::ListFault;
-pub use page::{PAGE_SIZE, Sink, list_page};
+pub use page::{PAGE_SIZE, list_page};
+pub use sink::{Closed, Sink};

@@ -1,4 +1,4 @@
-ghost use Rattle.std.specs.Prelude.{◌≡◌, ℕ, ◌<◌, ◌≤◌, None, MatchResult, ◌≢◌};
+ghost use Rattle.std.specs.Prelude.{◌≡◌, ℕ, ◌<◌, ◌≤◌, length, None, IfOk, MatchResult, ◌≢◌};
 ghost use Rattle.search.specs.Answers.{steps_of};
 
 use crate::answer::Answer;
@@ -62,7 +62,8 @@ impl Search {
     // Writes the text of the find's first generation into the page from place `at`; answers the
     // place after it. Granted only if the last go answered found.
     pub fn write(&self, page: &mut [u8], at: usize) -> Result<usize, WriteFault>
-        ensures { MatchResult result (λ _. self.now.record ≢ None) (λ _. page.new ≡ page.old) }
+        ensures granted { MatchResult result (λ _. self.now.record ≢ None) (λ _. page.new ≡ page.old) }
+        ensures within { IfOk result (λ end. end ≤ length page.new) }
     {
         let record = self.record.as_ref().ok_or(WriteFault::Blank)?;
         if !record.found {

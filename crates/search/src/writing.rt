@@ -1,4 +1,4 @@
-ghost use Rattle.std.specs.Prelude.{◌≡◌, ℕ, ◌+◌, ◌<◌, ◌≤◌, length, OnErr};
+ghost use Rattle.std.specs.Prelude.{◌≡◌, ℕ, ◌+◌, ◌<◌, ◌≤◌, length, IfOk, OnErr};
 
 use crate::fault::WriteFault;
 use crate::record::Record;
@@ -16,7 +16,8 @@ impl Record {
 
     // Writes the text of the first generation into the page from place `at`.
     pub(crate) fn write(&self, page: &mut [u8], at: usize) -> Result<usize, WriteFault>
-        ensures { OnErr result (page.new ≡ page.old) }
+        ensures refused { OnErr result (page.new ≡ page.old) }
+        ensures within { IfOk result (λ end. end ≤ length page.new) }
     {
         let places = self.frame.places() as usize;
         let pattern: [bool; 1024] = array::from_fn(|cell| cell < places && self.is_on(cell));
