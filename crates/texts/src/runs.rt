@@ -4,6 +4,7 @@ ghost use Rattle.rle.specs.Marks.{pattern_marks};
 ghost use Rattle.texts.specs.Marks.{lead, left, Gives};
 
 use crate::mark::Runs;
+use frames::Frame;
 use rle::{Mark, Run};
 
 // How many cells at the front are as `value` says.
@@ -18,14 +19,13 @@ fn leading(cells: &[bool], value: bool) -> usize
 }
 
 impl<'a> Runs<'a> {
-    // The runs of a pattern of so many columns and rows; what lies beyond these is not looked at.
-    pub fn new(width: u32, height: u32, pattern: &'a [bool]) -> Runs<'a>
-        requires { (1 ≤ width) × ((width ≤ 32) × (height ≤ 32)) }
-        ensures { left result ≡ pattern_marks width height pattern.now }
+    // The runs of a pattern of the frame's columns and rows; what lies beyond these is not looked at.
+    pub fn new(frame: &Frame, pattern: &'a [bool]) -> Runs<'a>
+        ensures { left result ≡ pattern_marks frame.now.width frame.now.height pattern.now }
     {
         // `as`: no `From` takes a `u32` to a `usize`, which may be narrower on other machines
-        let width = width as usize;
-        let cells = &pattern[..pattern.len().min(width * height as usize)];
+        let width = frame.width() as usize;
+        let cells = &pattern[..pattern.len().min(width * frame.height() as usize)];
         let (line, below) = cells.split_at(width.min(cells.len()));
         Runs { width, line, below }
     }

@@ -28,6 +28,6 @@ pub fn write_pattern(
         (pattern_text frame.now.width frame.now.height (written rule.now.births rule.now.survivals) pattern.now) }
 {
     let mut text = heading(frame, rule);
-    push_body(&mut text, Runs::new(frame.width(), frame.height(), pattern));
+    push_body(&mut text, Runs::new(frame, pattern));
     write_text(page, at, text.as_bytes())
 }

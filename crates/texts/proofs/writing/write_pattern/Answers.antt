@@ -6,10 +6,8 @@ use Rattle.texts.proofs.writing.write_pattern.Goals as goal
 pub push_body-requires : goal.push_body-requires
 push_body-requires c =
     let frame = c.args.frame.now in
-    let narrow = frame.narrow in
-    let low = frame.low in
     let body = ap (λ ms. length (body_text ms)) c.new.ensures in
-    omega (arith, body, pattern_short c.width.result c.height.result c.args.pattern.now (omega arith) (omega arith), c.heading-text.ensures.short)
+    omega (arith, body, pattern_short frame.width frame.height c.args.pattern.now frame.narrow frame.low, c.heading-text.ensures.short)
 
 pub returns-clause-back : goal.returns-clause-back
 returns-clause-back c =
