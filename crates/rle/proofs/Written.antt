@@ -3,7 +3,7 @@ use Rattle.std.proofs.Common.{◌≡◌, ℕ, zero, suc, pred, ◌+◌, ◌*◌,
 use Rattle.std.specs.List.{range_with_len, flat_map}
 use Rattle.std.proofs.lemmas.Fmt.{length-decimal-le, length-decimal-le_succ}
 use Rattle.std.proofs.lemmas.List.{append_assoc, append-nil, length-append, length-take}
-use Rattle.std.proofs.lemmas.Bool.{cases_eq, cond-true, cond-false, cond_both, eq-eqb, ne_eqb, leb-true}
+use Rattle.std.proofs.lemmas.Bool.{cases_eq, cases_lt, cond-true, cond-false, cond_both, eq-eqb, ne_eqb, leb-true}
 use Rattle.std.proofs.lemmas.Bool.Decides.{nat_tests}
 use Rattle.rules.specs.Answers.{holds}
 use Rattle.rules.specs.Forms.{digit_in, digits_below, written}
@@ -144,10 +144,6 @@ is_count n some few =
     (λ e. inr (some, few, cond-false (eqb n 1) [] (decimal n) (ne_eqb n 1 e)))
     (cases_eq n 1)
 
-count_short : (n : ℕ) → n ≤ 9999 → length (count_text n) ≤ n + 1
-count_short n few =
-    cond_both (eqb n 1) [] (decimal n) (λ x. length x ≤ n + 1) (λ e. omega arith) (λ e. length-decimal-le_succ n (omega arith))
-
 -- the body
 is_body : (rs : List Run) → Positive rs → total rs ≤ 9999 → BodyForm rs (flat_map run_text rs ++ (33 ∷ 10 ∷ []))
 is_body [] p few = ([], 10 ∷ [], tt, refl)
@@ -161,10 +157,23 @@ is_body (r ∷ rs) p few = (
   simp append_assoc,
 )
 
-body_short : (rs : List Run) → Positive rs → total rs ≤ 9999 → length (flat_map run_text rs) ≤ 3 * total rs
+-- a run's text is no longer than its cells or steps
+run_short : (n : ℕ) → 1 ≤ n → n ≤ 9999 → length (count_text n) + 1 ≤ n
+run_short n some few =
+    ⊎_elim
+    (λ one. omega (arith, ap length (cond-true (eqb n 1) [] (decimal n) (eq-eqb n 1 one))))
+    (λ more.
+    let is = ap length (cond-false (eqb n 1) [] (decimal n) (ne_eqb n 1 more)) in
+    ⊎_elim
+    (λ low. omega (arith, is, length-decimal-le 1 n (omega arith) (omega arith) (omega arith)))
+    (λ high. omega (arith, is, length-decimal-le 4 n (omega arith) (omega arith) (omega arith)))
+    (cases_lt n 9))
+    (cases_eq n 1)
+
+body_short : (rs : List Run) → Positive rs → total rs ≤ 9999 → length (flat_map run_text rs) ≤ total rs
 body_short [] p few = omega arith
 body_short (r ∷ rs) p few =
-    omega (arith, length-append (run_text r) (flat_map run_text rs), length-append (count_text r.count) (letter_of r.mark ∷ []), count_short r.count (omega arith), body_short rs p.1 (omega arith))
+    omega (arith, length-append (run_text r) (flat_map run_text rs), length-append (count_text r.count) (letter_of r.mark ∷ []), run_short r.count p.0 (omega arith), body_short rs p.1 (omega arith))
 
 -- a cell makes at most two marks
 cell_marks : (b : Bool) (ms : List Mark) → length (cell_mark b ms) ≤ length ms + 1
@@ -187,6 +196,17 @@ few_marks w (suc k) (b ∷ bs) = omega (arith, cell_marks b (marks_from w k bs),
 few_cells : (w h : ℕ) (cells : List Bool) → w ≤ 32 → h ≤ 32 → length (take (w * h) cells) ≤ 1024
 few_cells w h cells a b = omega (arith, length-take (w * h) cells, mul-le-mul a b)
 
+few_all : (w h : ℕ) (cells : List Bool) → w ≤ 32 → h ≤ 32 → length (pattern_marks w h cells) ≤ 2048
+few_all w h cells a b = omega (arith, few_marks w w (take (w * h) cells), few_cells w h cells a b)
+
+-- how long the body of a pattern is at most
+pub pattern_short : (w h : ℕ) (cells : List Bool) → w ≤ 32 → h ≤ 32 → length (body_text (pattern_marks w h cells)) ≤ 2050
+pattern_short w h cells a b =
+    let ms = pattern_marks w h cells in
+    let counts = grouped_total ms in
+    let few = few_all w h cells a b in
+    omega (arith, length-append (flat_map run_text (grouped ms)) (33 ∷ 10 ∷ []), body_short (grouped ms) counts.1 (omega arith), counts.0)
+
 line_short : (w h : ℕ) (name : List ℕ) → w ≤ 32 → h ≤ 32 → length name ≤ 21 → length (head_line w h name) ≤ 100
 unfolding head_line
 line_short w h name a b c =
@@ -204,7 +224,7 @@ round_trip w h births survivals cells a b c d =
     let line = head_line w h name in
     let whole : pattern_text w h name cells ≡ line ++ (10 ∷ body) = heading_whole w h name body in
     let counts = grouped_total ms in
-    let few : length ms ≤ 2048 = omega (arith, few_marks w w (take (w * h) cells), few_cells w h cells b d) in
+    let few : length ms ≤ 2048 = few_all w h cells b d in
     let some : total runs ≤ 9999 = omega (arith, counts.0) in
     let reads =
     reads_every [] w h (Some name) runs (pattern_text w h name cells) (record {

@@ -14,7 +14,8 @@ pub struct RuleText {
 
 impl RuleText {
     pub fn len(&self) -> usize
-        ensures { (result ≡ length self.now.text.bytes) × (result ≤ 21) }
+        ensures value { result ≡ length self.now.text.bytes }
+        ensures fits { result ≤ 21 }
     {
         self.text.len()
     }

@@ -1,16 +1,14 @@
 -- A run at the front of the marks is the first of their runs, and its text the front of theirs.
-use Rattle.std.proofs.Common.{◌≡◌, ℕ, zero, suc, ◌+◌, ◌<◌, ◌≤◌, true, false, eqb, List, [], ◌∷◌, ◌++◌, length, replicate, decimal, refl, ap, ◌∙◌, append_assoc, arith, length-append}
+use Rattle.std.proofs.Common.{◌≡◌, ℕ, zero, suc, ◌+◌, ◌<◌, ◌≤◌, true, false, List, [], ◌∷◌, ◌++◌, length, replicate, refl, ap, ◌∙◌, append_assoc, arith, length-append}
 use lib.ListN.{length-replicate}
 use Rattle.std.specs.List.{flat_map}
-use Rattle.std.proofs.lemmas.List.{length_push}
-use Rattle.std.proofs.lemmas.Bool.{cond-true, cond-false, cond_both, eq-eqb, ne_eqb}
+use Rattle.std.proofs.lemmas.Bool.{cond-true, cond-false, cond_both}
 use Rattle.rle.specs.declared.mark.Mark.{Mark}
 use Rattle.rle.specs.declared.mark.Mark.TheVariants.{Off, On, NextRow}
 use Rattle.rle.specs.declared.mark.Run.{Run}
 use Rattle.rle.specs.Marks.{same_mark, join_mark, grouped}
 use Rattle.texts.specs.Marks.{begins_with}
-use Rattle.rle.specs.Runs.{letter_of}
-use Rattle.rle.specs.Texts.{count_text, run_text, body_text}
+use Rattle.rle.specs.Texts.{run_text, body_text}
 
 same_mark_self : (m : Mark) → same_mark m m ≡ true
 same_mark_self Off = refl
@@ -53,12 +51,3 @@ shorter old new n m h e = omega (arith, ap length e, length-append (replicate n 
 
 pub body_length_more : (old new : List Mark) (r : Run) → 1 ≤ r.count → old ≡ replicate r.count r.mark ++ new → begins_with r.mark new ≡ false → length (body_text old) ≡ length (run_text r) + length (body_text new)
 body_length_more old new r h e o = ap length (body_more old new r h e o) ∙ length-append (run_text r) (body_text new)
-
-pub run_length : (r : Run) → length (run_text r) ≡ length (count_text r.count) + 1
-run_length r = length_push (count_text r.count) (letter_of r.mark)
-
-pub count_one : (n : ℕ) → n ≡ 1 → count_text n ≡ []
-count_one n e = cond-true (eqb n 1) [] (decimal n) (eq-eqb n 1 e)
-
-pub count_more : (n : ℕ) → (n ≡ 1 → ⊥) → count_text n ≡ decimal n
-count_more n e = cond-false (eqb n 1) [] (decimal n) (ne_eqb n 1 e)

@@ -1,23 +1,29 @@
 -- The cells at the front of a row that are alike, and the marks that they make.
-use Rattle.std.proofs.Common.{◌≡◌, ℕ, zero, suc, ◌+◌, ◌<◌, ◌≤◌, Bool, true, false, not, List, [], ◌∷◌, ◌++◌, length, get_or, take, drop, replicate, sym, refl, ap, ◌∙◌, arith}
+use Rattle.std.proofs.Common.{◌≡◌, ℕ, zero, suc, ◌+◌, ◌<◌, ◌≤◌, Bool, true, false, List, [], ◌∷◌, ◌++◌, length, take, drop, replicate, sym, refl, ap, ◌∙◌, arith}
 use mathlib.Core.Bool.{beq}
-use Rattle.std.proofs.lemmas.List.{at_drop_more, at_drop_all}
-use Rattle.std.proofs.lemmas.Bool.{cond-true, cond-false, not-true, not-false}
+use Rattle.std.specs.Prelude.{slice_index_or}
+use Rattle.std.proofs.lemmas.Bool.{cond-true, cond-false}
 use Rattle.rle.specs.declared.mark.Mark.{Mark}
 use Rattle.rle.specs.declared.mark.Mark.TheVariants.{Off, On, NextRow}
 use Rattle.rle.specs.Marks.{cell_mark, marks_from, step_down}
 use Rattle.texts.specs.Marks.{lead, row_marks, begins_with}
 
--- how a loop over the cells comes to `lead`
+-- the first n cells are v, and the next is not
+pub record Leads (v : Bool) (bs : List Bool) (n : ℕ) : Type 0 where
+  pub within : n ≤ length bs
+  pub same : (k : ℕ) → k < n → beq (slice_index_or bs k false) v ≡ true
+  pub stops : n < length bs → beq (slice_index_or bs n false) v ≡ false
 
-pub lead_more : (v : Bool) (bs : List Bool) (i : ℕ) → i < length bs → not (beq (get_or bs i false) v) ≡ false → lead v (drop i bs) ≡ suc (lead v (drop (i + 1) bs))
-lead_more v bs i h e = at_drop_more (lead v) bs i false h ∙ cond-true (beq (get_or bs i false) v) (suc (lead v (drop (i + 1) bs))) 0 (not-false _ e)
-
-pub lead_stop : (v : Bool) (bs : List Bool) (i : ℕ) → i < length bs → not (beq (get_or bs i false) v) ≡ true → lead v (drop i bs) ≡ 0
-lead_stop v bs i h e = at_drop_more (lead v) bs i false h ∙ cond-false (beq (get_or bs i false) v) (suc (lead v (drop (i + 1) bs))) 0 (not-true _ e)
-
-pub lead_end : (v : Bool) (bs : List Bool) (i : ℕ) → length bs ≤ i → lead v (drop i bs) ≡ 0
-lead_end v bs i h = at_drop_all (lead v) bs i h
+pub lead_is : (v : Bool) (bs : List Bool) (n : ℕ) → Leads v bs n → n ≡ lead v bs
+lead_is v [] n found = omega (arith, found.within)
+lead_is v (b ∷ bs) zero found = sym (cond-false (beq b v) (suc (lead v bs)) 0 (found.stops (omega arith)))
+lead_is v (b ∷ bs) (suc n) found =
+    let more : Leads v bs n = record {
+      within = omega (arith, found.within);
+      same = λ k below. found.same (suc k) (omega arith);
+      stops = λ left. found.stops (omega arith);
+    } in
+    ap suc (lead_is v bs n more) ∙ sym (cond-true (beq b v) (suc (lead v bs)) 0 (found.same 0 (omega arith)))
 
 -- a front of the cells, and what it leaves
 

@@ -1,4 +1,3 @@
 pub mod Leads
 pub mod Rows
 pub mod Groups
-pub mod Puts

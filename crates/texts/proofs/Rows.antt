@@ -68,35 +68,26 @@ cut_short w m bs e =
     (λ l. let is : m ≡ length bs = omega arith in (take_all m bs (omega arith) ∙ sym (take_all w bs l), drop_all m bs (omega arith) ∙ sym (drop_all w bs l)))
     (cases_lt w (length bs))
 
-pub row_cut : (w s m : ℕ) (bs : List Bool) → s ≤ length bs → m ≡ min w (length bs - s) → marks_left w (take (s + m - s) (drop s bs)) (take (length bs - (s + m)) (drop (s + m) bs)) ≡ marks_from w w (drop s bs)
-row_cut w s m bs h e =
-    let cut = cut_short w m (drop s bs) (e ∙ ap (min w) (sym (length-drop s bs))) in
-    let line : take (s + m - s) (drop s bs) ≡ take w (drop s bs) = ap (λ n. take n (drop s bs)) (omega arith) ∙ cut.0 in
-    let below : take (length bs - (s + m)) (drop (s + m) bs) ≡ drop w (drop s bs) = take_rest bs (s + m) ∙ sym (drop-drop m s bs) ∙ cut.1 in
-    ap (λ l. marks_left w l (take (length bs - (s + m)) (drop (s + m) bs))) line
-    ∙ ap (marks_left w (take w (drop s bs))) below
-    ∙ sym (row_apart w w (drop s bs))
-
-pub first_cut : (w n m e : ℕ) (ps : List Bool) → m ≡ min (length ps) n → let cells : List Bool = take (m - 0) ps in e ≡ min (length cells) w → marks_left w (take (e - 0) cells) (take (length cells - e) (drop e cells)) ≡ marks_from w w (take n ps)
-first_cut w n m e ps em ee =
-    let cells : List Bool = take (m - 0) ps in
-    let these : cells ≡ take n ps = (cut_short n (m - 0) ps (omega arith)).0 in
-    let line : take (e - 0) cells ≡ take w cells = (cut_short w (e - 0) cells (omega arith)).0 in
-    let below : take (length cells - e) (drop e cells) ≡ drop w cells = take_rest cells e ∙ (cut_short w e cells (omega arith)).1 in
-    ap (λ l. marks_left w l (take (length cells - e) (drop e cells))) line
-    ∙ ap (marks_left w (take w cells)) below
+row_cut : (w m : ℕ) (cells line below : List Bool) → m ≡ min w (length cells) → line ≡ take m cells → below ≡ drop m cells → marks_left w line below ≡ marks_from w w cells
+row_cut w m cells line below e l b =
+    let cut = cut_short w m cells e in
+    ap (λ xs. marks_left w xs below) (l ∙ cut.0)
+    ∙ ap (marks_left w (take w cells)) (b ∙ cut.1)
     ∙ sym (row_apart w w cells)
-    ∙ ap (marks_from w w) these
+
+pub first_cut : (w n m e : ℕ) (ps cells line below : List Bool) → m ≡ min (length ps) n → cells ≡ take m ps → e ≡ min w (length cells) → line ≡ take e cells → below ≡ drop e cells → marks_left w line below ≡ marks_from w w (take n ps)
+first_cut w n m e ps cells line below em ec ee l b =
+    row_cut w e cells line below ee l b ∙ ap (marks_from w w) (ec ∙ (cut_short n m ps (omega arith)).0)
 
 -- what each run leaves, in the words of the code
 
-pub gives_down : (w g m : ℕ) (line bs : List Bool) → 1 ≤ w → lead false line ≡ length line → g ≡ lead false bs → g < length bs → m ≡ min w (length bs - g / w * w) → let new : List Mark = marks_left w (take (g / w * w + m - g / w * w) (drop (g / w * w) bs)) (take (length bs - (g / w * w + m)) (drop (g / w * w + m) bs)) in (1 ≤ g / w + 1) × (marks_left w line bs ≡ replicate (g / w + 1) NextRow ++ new) × (begins_with NextRow new ≡ false)
-gives_down w g m line bs one off is some cut =
+pub gives_down : (w g m : ℕ) (line bs rows line2 below : List Bool) → 1 ≤ w → lead false line ≡ length line → g ≡ lead false bs → g < length bs → rows ≡ drop (g / w * w) bs → m ≡ min w (length rows) → line2 ≡ take m rows → below ≡ drop m rows → let new : List Mark = marks_left w line2 below in (1 ≤ g / w + 1) × (marks_left w line bs ≡ replicate (g / w + 1) NextRow ++ new) × (begins_with NextRow new ≡ false)
+gives_down w g m line bs rows line2 below one off is some at cut l b =
     let s : ℕ = g / w * w in
     let parts = div-add-mod' g w in
     let rest = mod_below g w one in
     let found = down w (g / w) s bs one refl (omega arith) (omega arith) (omega arith) in
-    let new = row_cut w s m bs (omega arith) cut in (
+    let new = row_cut w m rows line2 below cut l b ∙ ap (marks_from w w) at in (
       omega arith,
       row_off w line bs off ∙ found.0 ∙ ap (λ n. replicate n NextRow ++ marks_from w w (drop s bs)) (sym (add-one (g / w))) ∙ ap (λ l. replicate (g / w + 1) NextRow ++ l) (sym new),
       ap (begins_with NextRow) new ∙ found.1,

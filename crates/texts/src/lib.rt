@@ -5,6 +5,7 @@ mod body;
 mod heading;
 mod mark;
 mod runs;
+mod text;
 mod writing;
 
 pub use pages::PageFault;

@@ -17,12 +17,8 @@ fn writes(
     pattern: &[bool],
     text: &[u8],
 ) -> Result<(), Fail> {
-    let Ok(frame) = Frame::new(width, height, 1, 0, 0) else {
-        return Err(Fail::new("no frame"));
-    };
-    let Ok(rule) = Rule::parse(b"B3/S23") else {
-        return Err(Fail::new("no rule"));
-    };
+    let frame = Frame::new(width, height, 1, 0, 0)?;
+    let rule = Rule::parse(b"B3/S23")?;
     let dots = [b'.'; 64];
     let mut page = dots;
     let end = write_pattern(&mut page, 3, &frame, &rule, pattern)?;
@@ -71,12 +67,8 @@ fn empty_rows_are_one_run(rt: HostRuntime) -> Result<(), Fail> {
 
 #[test]
 fn short_page_stays(rt: HostRuntime) -> Result<(), Fail> {
-    let Ok(frame) = Frame::new(2, 2, 1, 0, 0) else {
-        return Err(Fail::new("no frame"));
-    };
-    let Ok(rule) = Rule::parse(b"B3/S23") else {
-        return Err(Fail::new("no rule"));
-    };
+    let frame = Frame::new(2, 2, 1, 0, 0)?;
+    let rule = Rule::parse(b"B3/S23")?;
     let dots = [b'.'; 34];
     let mut page = dots;
     assert_eq!(rt;

@@ -1,12 +1,8 @@
-use Rattle.std.proofs.Common.{arith}
-use Rattle.texts.proofs.Leads.{lead_more, lead_stop, lead_end}
+use Rattle.std.proofs.Common.{rules}
+use Rattle.texts.proofs.Leads.{Leads, lead_is}
 use Rattle.texts.proofs.runs.leading.Goals as goal
 
-pub returns-then-cell-value : goal.returns-then-cell-value
-returns-then-cell-value c = (omega (arith, lead_stop c.args.value c.args.cells.now c.loop-i.i (omega arith) c.if-cell-value.true), omega arith)
-
-pub loop-i-preserved : goal.loop-i-preserved
-loop-i-preserved c = omega (arith, lead_more c.args.value c.args.cells.now c.loop-i.i (omega arith) c.if-cell-value.false)
-
-pub returns : goal.returns
-returns c = (omega (arith, lead_end c.args.value c.args.cells.now c.loop-i.i (omega arith)), omega arith)
+pub returns-clause-lead : goal.returns-clause-lead
+returns-clause-lead c =
+    let found : Leads c.args.value c.args.cells.now c.unwrap_or.result = search rules in
+    lead_is c.args.value c.args.cells.now c.unwrap_or.result found
