@@ -25,11 +25,6 @@ view Off = inr (false, refl)
 view On = inr (true, refl)
 view Unknown = inl refl
 
-pub unknown_value : (v : Value) → is_unknown v ≡ true → v ≡ Unknown
-unknown_value Off e = never (cc)
-unknown_value On e = never (cc)
-unknown_value Unknown e = refl
-
 -- two states that are not different are the same
 pub same_bool : (a b : Bool) → ((a ≡ b → ⊥) → ⊥) → a ≡ b
 same_bool false false h = refl
