@@ -1,10 +1,9 @@
 -- The completions of a descriptor and its fitting pairs.
 use Rattle.std.proofs.Common.{◌≡◌, ℕ, zero, suc, ◌+◌, ◌-◌, ◌<◌, ◌≤◌, Bool, true, false, cond, ltb, List, [], ◌∷◌, length, sym, refl, ap, ◌∙◌, subst, inl, inr, arith}
 use Rattle.std.proofs.lemmas.Bool.{cases_Bool, eqb-true, eq-eqb, ltb-true, lt-ltb}
-use Rattle.codes.specs.declared.value.Value.{Value}
-use Rattle.codes.specs.declared.value.Value.TheVariants.{Off, On, Unknown}
+use Rattle.codes.specs.declared.value.Value.TheVariants.{Unknown}
 use Rattle.codes.specs.Values.{agrees}
-use Rattle.codes.specs.Codes.{Parts, Pair, fitting, is_empty, is_unknown, is, says_centre, says_successor, says_neighbours, edge, code}
+use Rattle.codes.specs.Codes.{Parts, Pair, fitting, is_empty, is_unknown, says_centre, says_successor, says_neighbours, edge, code}
 use Rattle.codes.specs.Laws.{Completion, ons, AllAre, successor_in, Agreeing, Tells, CodeLaw, TableTells, centre_bit, successor_bit, neighbour_bit}
 use Rattle.codes.specs.declared.table.Table.{Table}
 use Rattle.codes.specs.Tables.{index, code_at, code_in}

@@ -1,6 +1,6 @@
 -- The worked examples, by computing every instance.
-use Rattle.std.proofs.Common.{◌≡◌, ℕ, zero, suc, ◌+◌, ◌<◌, Bool, true, false, not, ◌&&◌, List, [], ◌∷◌, sym, refl, inl, inr, arith, lit<}
-use Rattle.std.proofs.lemmas.Bool.{and_parts, both_ways, cases_order}
+use Rattle.std.proofs.Common.{◌≡◌, ℕ, ◌+◌, ◌<◌, Bool, true, false, not, List, [], ◌∷◌, sym, refl, arith, lit<}
+use Rattle.std.proofs.lemmas.Bool.{both_ways}
 use Rattle.rules.specs.declared.rule.Rule.{Rule}
 use Rattle.rules.specs.Answers.{answer}
 use Rattle.rolls.specs.Examples.{RollsWorked, plainly, around_torus, two_by_two, one_cell, down_right, life, crowded, glider, O}

@@ -2,7 +2,6 @@
 use Rattle.std.proofs.Common.{◌≡◌, ℕ, zero, suc, ◌<◌, Bool, true, false, ◌⊎◌, List, [], ◌∷◌, map, length, get_or, refl, ap, inl, inr, arith}
 use Rattle.codes.specs.declared.value.Value.{Value}
 use Rattle.codes.specs.declared.value.Value.TheVariants.{Off, On, Unknown}
-use Rattle.codes.specs.Codes.{is_unknown}
 use Rattle.codes.specs.Laws.{known}
 use Rattle.systems.specs.Systems.{In, here, there, unknown_one}
 

@@ -7,7 +7,7 @@ use Rattle.rules.specs.Answers.{holds}
 use Rattle.codes.specs.declared.value.Value.{Value}
 use Rattle.codes.specs.declared.value.Value.TheVariants.{Off, On, Unknown}
 use Rattle.codes.specs.Values.{agrees}
-use Rattle.codes.specs.Codes.{Parts, Pair, fitting, is_empty, is_unknown, is, says_centre, says_successor, says_neighbours, edge, code}
+use Rattle.codes.specs.Codes.{Parts, Pair, fitting, is_empty, is_unknown, says_centre, says_successor, says_neighbours, edge, code}
 use Rattle.codes.specs.Laws.{known, KnowsMore, centre_bit, successor_bit, neighbour_bit}
 use Rattle.codes.proofs.Pairs.{is_state, Fit, every_fit, fit_every, fit_empty}
 use Rattle.codes.proofs.Bits.{contradicted, centre_tells, successor_tells, neighbours_tell}
