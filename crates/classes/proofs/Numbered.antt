@@ -1,6 +1,6 @@
 -- Numbering classes cell by cell.
-use Rattle.std.proofs.Common.{◌≡◌, ℕ, ◌+◌, ◌<◌, ◌≤◌, List, [], ◌∷◌, ◌++◌, length, get_or, take, sym, refl, ap, ◌∙◌}
-use Rattle.std.proofs.lemmas.List.{take_more, take_all}
+use Rattle.std.proofs.Common.{◌≡◌, ℕ, ◌+◌, ◌<◌, List, [], ◌∷◌, ◌++◌, length, get_or, take, sym, refl, ap, ◌∙◌}
+use Rattle.std.proofs.lemmas.List.{take_more}
 use Rattle.classes.specs.Numbers.{Numbers, numbered_too, numbered_from, numbers_of}
 
 -- one label more at the end
@@ -18,6 +18,3 @@ numbers_more labels i old new h e step =
     step ∙ ap (λ n. numbered_too n (get_or labels i 0)) e
     ∙ sym (from_push (record { classes = []; lowest = [] }) (take i labels) (get_or labels i 0))
     ∙ sym (ap numbers_of (take_more labels i 0 h))
-
-pub numbers_all : (labels : List ℕ) (i : ℕ) (n : Numbers) → length labels ≤ i → n ≡ numbers_of (take i labels) → n ≡ numbers_of labels
-numbers_all labels i n h e = e ∙ ap numbers_of (take_all i labels h)

@@ -1,5 +1,5 @@
 -- Labels as cells are united: what the loops come to, and that no label rises.
-use Rattle.std.proofs.Common.{◌≡◌, ℕ, zero, suc, ◌+◌, ◌*◌, ◌/◌, ◌%◌, ◌<◌, ◌≤◌, min, max, List, [], ◌∷◌, ◌++◌, map, length, get_or, take, drop, sym, ap, ◌∙◌, subst, inl, inr, append-nil, add-one, mul_comm, arith}
+use Rattle.std.proofs.Common.{◌≡◌, ℕ, ◌+◌, ◌*◌, ◌/◌, ◌%◌, ◌<◌, ◌≤◌, min, max, List, ◌++◌, map, length, get_or, take, drop, sym, ap, ◌∙◌, subst, inl, inr, append-nil, add-one, mul_comm, arith}
 use lib.ListN.{length-map}
 use Rattle.std.proofs.lemmas.Nat.{div-mul-add, mod-mul-add, mul-add-lt}
 use Rattle.std.proofs.lemmas.List.{take_all, drop_all, get_or-map}
@@ -29,13 +29,6 @@ united_lower xs a b =
       as_long = length-map xs (renamed low high);
       lower = λ k h. subst (λ n. n ≤ get_or xs k 0) (sym (get_or-map (renamed low high) xs k 0 0 h)) (renamed_le low high (get_or xs k 0) (omega arith));
     }
-
-pub counting_from : (a n : ℕ) → range_with_len a (suc n) ≡ range_with_len a n ++ (a + n) ∷ []
-counting_from a zero = ap (λ m. m ∷ []) (omega arith)
-counting_from a (suc n) = ap (λ l. a ∷ l) (counting_from (a + 1) n ∙ ap (λ m. range_with_len (a + 1) n ++ m ∷ []) (omega arith))
-
-pub counting_push : (n : ℕ) → range_with_len 0 (n + 1) ≡ range_with_len 0 n ++ n ∷ []
-counting_push n = ap (range_with_len 0) (add-one n) ∙ counting_from 0 n ∙ ap (λ m. range_with_len 0 n ++ m ∷ []) (omega arith)
 
 pub counting_low : (n : ℕ) → Low (range_with_len 0 n)
 counting_low n k h = subst (λ m. m ≤ k) (sym (get_or-range_with_len 0 n k 0 (omega (arith, length-range_with_len 0 n)))) (omega arith)

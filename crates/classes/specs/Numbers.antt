@@ -1,10 +1,16 @@
 -- Classes numbered in the sequence of their lowest cells.
-use Rattle.std.specs.Prelude.{ℕ, cond, List, [], ◌∷◌, ◌++◌, length, ◌==◌, slice_index}
+use Rattle.std.specs.Prelude.{ℕ, ◌≤◌, cond, List, [], ◌∷◌, ◌++◌, length, ◌==◌, slice_index}
+use Rattle.classes.specs.Labels.{Numbered}
 
 -- the class of each cell so far, and the lowest cell of each class so far
 pub record Numbers : Type 0 where
   pub classes : List ℕ
   pub lowest : List ℕ
+
+-- so many classes of so many cells: no more, and each cell has one of them
+pub record Fit (count cells : ℕ) (classes : List ℕ) : Type 0 where
+  pub fewer : count ≤ cells
+  pub below : Numbered count classes
 
 -- the next cell: it begins a class where its label is its own number, else it joins that of the cell that the label names
 abbrev pub next_class : Numbers → ℕ → ℕ

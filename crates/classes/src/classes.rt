@@ -12,7 +12,8 @@ pub struct Musts {
 pub struct Classes {
     // the class of each cell
     pub(crate) labels: Vec<u16>,
-    // the lowest cell of each class
+    // the lowest cell of each class; no pair with what is asked of it: this is whole before anything
+    // is asked, the laws speak of each list alone, and no code reads the two together
     pub(crate) lowest: Vec<u16>,
     pub(crate) musts: Vec<Musts>,
     // how many classes nothing is asked of

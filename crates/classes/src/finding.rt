@@ -49,10 +49,10 @@ fn joined_labels<S: Space>(heap: Global, space: &S) -> Result<Vec<u16>, AllocErr
 
 // Numbers the classes in the sequence of their lowest cells, whose numbers are the labels.
 fn numbered(heap: Global, joined: &[u16]) -> Result<Numbering, AllocError>
-    requires { (Low joined.now) × (length joined.now ≤ 4096) }
-    ensures len { IfOk result (λ n. vec_len n.labels ≡ length joined.now) }
-    ensures fewer { IfOk result (λ n. vec_len n.lowest ≤ length joined.now) }
-    ensures value { IfOk result (λ n. ◌≡◌ {A = Numbers} (record { classes = n.labels.items; lowest = n.lowest.items }) (numbers_of joined.now)) }
+    requires low { Low joined.now }
+    requires few { length joined.now ≤ 4096 }
+    ensures len { IfOk result (λ n. length n.classes ≡ length joined.now) }
+    ensures value { IfOk result (λ n. n ≡ numbers_of joined.now) }
 {
     let mut numbering = Numbering::new(heap);
     for label in joined {

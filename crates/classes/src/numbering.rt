@@ -1,20 +1,31 @@
-ghost use Rattle.std.specs.Prelude.{◌≡◌, ℕ, ◌+◌, ◌<◌, ◌≤◌, [], ◌∷◌, ◌++◌, IfOk, vec_len, OnOk};
-ghost use Rattle.classes.specs.Labels.{Numbered};
-ghost use Rattle.classes.specs.Numbers.{Numbers, next_class, next_lowest, numbered_too};
+ghost use Rattle.std.specs.Prelude.{◌≡◌, ◌<◌, ◌≤◌, [], length, OnOk};
+ghost use Rattle.classes.specs.Numbers.{numbered_too};
 
 use std::alloc::{AllocError, Global};
+use std::marker::Model;
 
 // Classes while they are numbered: the class of each cell so far, and the lowest cell of each class.
 #[derive(Drop)]
 pub(crate) struct Numbering {
     pub(crate) labels: Vec<u16>,
     pub(crate) lowest: Vec<u16>,
-    ghost below: { Numbered (vec_len lowest) labels.items },
+}
+
+impl Model for Numbering {
+    ghost use Rattle.std.specs.Prelude.{vec_len};
+    ghost use Rattle.classes.specs.Numbers.{Numbers, Fit};
+
+    ghost Value = { Numbers };
+
+    ghost view = { λ n. record { classes = n.labels.items; lowest = n.lowest.items } };
+
+    ghost invariant = { λ n. Fit (vec_len n.lowest) (vec_len n.labels) n.labels.items };
 }
 
 impl Numbering {
+    // No cell is numbered yet.
     pub(crate) fn new(heap: Global) -> Numbering
-        ensures { (result.labels.items ≡ []) × (result.lowest.items ≡ []) }
+        ensures { result ≡ record { classes = []; lowest = [] } }
     {
         Numbering {
             labels: Vec::new(heap),
@@ -22,43 +33,28 @@ impl Numbering {
         }
     }
 
-    // One class more, whose lowest cell this is.
-    fn begin(&mut self, cell: u16) -> Result<u16, AllocError>
-        requires { vec_len self.old.lowest < 4096 }
-        ensures len { IfOk result (λ class. (class ≡ vec_len self.old.lowest) × (vec_len self.new.lowest ≡ class + 1)) }
-        ensures lowest { OnOk result (self.new.lowest.items ≡ self.old.lowest.items ++ cell ∷ []) }
-        ensures same { self.new.labels ≡ self.old.labels }
+    // Takes the next cell in, which begins a class.
+    fn begin(&mut self, cell: u16) -> Result<(), AllocError>
+        requires next { cell ≡ length self.old.classes }
+        requires room { cell < 4096 }
+        ensures { OnOk result (self.new ≡ numbered_too self.old cell) }
     {
-        let class = self.lowest.len() as u16;
-        self.lowest.push(cell)?;
-        Ok(class)
+        self.lowest.reserve(1)?;
+        self.labels.push(self.lowest.len() as u16)?;
+        self.lowest.push_reserved(cell);
+        Ok(())
     }
 
-    // The class of the next cell: it begins one where its label is its own number, else it joins
+    // Takes the next cell in: it begins a class where its label is its own number, else it joins
     // that of the cell that the label names.
-    fn next_class(&mut self, label: u16) -> Result<u16, AllocError>
-        requires { (label ≤ vec_len self.old.labels) × ((vec_len self.old.labels < 4096) × (vec_len self.old.lowest < 4096)) }
-        ensures below { IfOk result (λ class. class < vec_len self.new.lowest) }
-        ensures fewer { OnOk result (vec_len self.new.lowest ≤ vec_len self.old.lowest + 1) }
-        ensures value { IfOk result (λ class. class ≡ next_class (record { classes = self.old.labels.items; lowest = self.old.lowest.items }) label) }
-        ensures lowest { OnOk result (self.new.lowest.items ≡ next_lowest (record { classes = self.old.labels.items; lowest = self.old.lowest.items }) label) }
-        ensures same { self.new.labels ≡ self.old.labels }
-    {
-        let cell = self.labels.len() as u16;
-        if label == cell {
-            return self.begin(cell);
-        }
-        Ok(self.labels[label as usize])
-    }
-
-    // Takes the next cell in.
     pub(crate) fn add(&mut self, label: u16) -> Result<(), AllocError>
-        requires { (label ≤ vec_len self.old.labels) × ((vec_len self.old.lowest ≤ vec_len self.old.labels) × (vec_len self.old.labels < 4096)) }
-        ensures len { OnOk result (vec_len self.new.labels ≡ vec_len self.old.labels + 1) }
-        ensures fewer { OnOk result (vec_len self.new.lowest ≤ vec_len self.old.lowest + 1) }
-        ensures value { OnOk result (◌≡◌ {A = Numbers} (record { classes = self.new.labels.items; lowest = self.new.lowest.items }) (numbered_too (record { classes = self.old.labels.items; lowest = self.old.lowest.items }) label)) }
+        requires known { label ≤ length self.old.classes }
+        requires room { length self.old.classes < 4096 }
+        ensures { OnOk result (self.new ≡ numbered_too self.old label) }
     {
-        let class = self.next_class(label)?;
+        let Some(class) = self.labels.get(label as usize).copied() else {
+            return self.begin(label);
+        };
         self.labels.push(class)?;
         Ok(())
     }

@@ -13,7 +13,8 @@ fn renamed_label(label: u16, low: u16, high: u16) -> u16
 
 // Gives two cells one label, the lower of theirs, and all cells that had the other one too.
 pub(crate) fn unite(labels: &mut [u16], a: usize, b: usize)
-    requires { (a < length labels.old) × (b < length labels.old) }
+    requires a { a < length labels.old }
+    requires b { b < length labels.old }
     ensures value { labels.new ≡ united labels.old a b }
     ensures lower { Lowered labels.old labels.new }
 {
@@ -28,12 +29,12 @@ pub(crate) fn unite(labels: &mut [u16], a: usize, b: usize)
 
 // Unites a cell with the one that a tie names.
 pub(crate) fn join(labels: &mut [u16], cell: usize, tie: Tie)
-    requires { (cell < length labels.old) × (Within (length labels.old) tie) }
+    requires cell { cell < length labels.old }
+    requires tie { Within (length labels.old) tie }
     ensures value { labels.new ≡ joined_by labels.old cell tie }
     ensures lower { Lowered labels.old labels.new }
 {
-    match tie {
-        Tie::Same(other) => unite(labels, cell, other as usize),
-        _ => {}
+    if let Tie::Same(other) = tie {
+        unite(labels, cell, other as usize);
     }
 }

@@ -1,15 +1,14 @@
 -- The completions of a descriptor and its fitting pairs.
 use Rattle.std.proofs.Common.{◌≡◌, ℕ, zero, suc, ◌+◌, ◌-◌, ◌<◌, ◌≤◌, Bool, true, false, cond, ltb, List, [], ◌∷◌, length, sym, refl, ap, ◌∙◌, subst, inl, inr, arith}
 use Rattle.std.proofs.lemmas.Bool.{cases_Bool, eqb-true, eq-eqb, ltb-true, lt-ltb}
-use Rattle.codes.specs.declared.value.Value.{Value}
-use Rattle.codes.specs.declared.value.Value.TheVariants.{Off, On, Unknown}
+use Rattle.codes.specs.declared.value.Value.TheVariants.{Unknown}
 use Rattle.codes.specs.Values.{agrees}
-use Rattle.codes.specs.Codes.{Parts, Pair, fitting, is_empty, is_unknown, is, says_centre, says_successor, says_neighbours, edge, code}
+use Rattle.codes.specs.Codes.{Parts, Pair, fitting, is_empty, is_unknown, says_centre, says_successor, says_neighbours, edge, code}
 use Rattle.codes.specs.Laws.{Completion, ons, AllAre, successor_in, Agreeing, Tells, CodeLaw, TableTells, centre_bit, successor_bit, neighbour_bit}
 use Rattle.codes.specs.declared.table.Table.{Table}
 use Rattle.codes.specs.Tables.{index, code_at, code_in}
 use Rattle.codes.proofs.Tables.{code_placed}
-use Rattle.codes.proofs.Pairs.{unlike, Fit, every_fit, fit_every, empty_fit, fit_empty}
+use Rattle.codes.proofs.Pairs.{unlike, is_state, state_is, unknown_value, value_unknown, Fit, every_fit, fit_every, empty_fit, fit_empty}
 use Rattle.codes.proofs.Bits.{Bit, contradicted, contradiction, lowest, few, centre_tells, successor_tells, neighbours_tell}
 
 few_ons : (bs : List Bool) → ons bs ≤ length bs
@@ -51,24 +50,6 @@ some_on_ons zero zero l = refl
 some_on_ons (suc k) zero l = absurd (omega arith)
 some_on_ons zero (suc u) l = omega (arith, some_on_ons zero u (omega arith))
 some_on_ons (suc k) (suc u) l = omega (arith, some_on_ons k u (omega arith))
-
-is_state : (b a : Bool) → is b a ≡ true → a ≡ b
-is_state true a e = e
-is_state false false e = refl
-is_state false true e = unlike e
-
-state_is : (b a : Bool) → a ≡ b → is b a ≡ true
-state_is true a e = e
-state_is false false e = refl
-state_is false true e = unlike (sym e)
-
-pub unknown_value : (v : Value) → is_unknown v ≡ true → v ≡ Unknown
-unknown_value Off e = unlike e
-unknown_value On e = unlike e
-unknown_value Unknown e = refl
-
-pub value_unknown : (v : Value) → v ≡ Unknown → is_unknown v ≡ true
-value_unknown v e = ap is_unknown e
 
 -- the pair of a completion, and a completion of a pair
 abbrev pair_of : Parts → Completion → Pair

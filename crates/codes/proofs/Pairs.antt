@@ -1,11 +1,31 @@
 -- What every fitting pair says.
-use Rattle.std.proofs.Common.{◌≡◌, ℕ, zero, suc, ◌+◌, ◌<◌, ◌≤◌, Bool, true, false, List, [], ◌∷◌, sym, refl, ◌∙◌, subst, inl, inr, arith}
+use Rattle.std.proofs.Common.{◌≡◌, ℕ, zero, suc, ◌+◌, ◌<◌, ◌≤◌, Bool, true, false, List, [], ◌∷◌, sym, refl, ap, ◌∙◌, subst, inl, inr, arith}
 use Rattle.std.proofs.lemmas.Bool.{and_parts, and_from, cases_eq, both_ways}
+use Rattle.codes.specs.declared.value.Value.{Value}
+use Rattle.codes.specs.declared.value.Value.TheVariants.{Off, On, Unknown}
 use Rattle.codes.specs.Values.{agrees}
-use Rattle.codes.specs.Codes.{Parts, Pair, fits, keep_if, fitting_of, fitting, is_empty, every}
+use Rattle.codes.specs.Codes.{Parts, Pair, is, is_unknown, fits, keep_if, fitting_of, fitting, is_empty, every}
 
 pub unlike : {A : Type 0} → false ≡ true → A
 unlike e = absurd (both_ways false refl e)
+
+pub is_state : (b a : Bool) → is b a ≡ true → a ≡ b
+is_state true a e = e
+is_state false false e = refl
+is_state false true e = unlike e
+
+pub state_is : (b a : Bool) → a ≡ b → is b a ≡ true
+state_is true a e = e
+state_is false false e = refl
+state_is false true e = unlike (sym e)
+
+pub unknown_value : (v : Value) → is_unknown v ≡ true → v ≡ Unknown
+unknown_value Off e = unlike e
+unknown_value On e = unlike e
+unknown_value Unknown e = refl
+
+pub value_unknown : (v : Value) → v ≡ Unknown → is_unknown v ≡ true
+value_unknown v e = ap is_unknown e
 
 -- a pair that fits, with a sum that is possible
 pub record Fit (rule : Bool → ℕ → Bool) (d : Parts) (p : Pair) : Type 0 where

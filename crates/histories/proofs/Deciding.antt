@@ -37,24 +37,20 @@ stands_before S ρ [] x b es (choice σ l e c) = (σ, l, e)
 stands_before S ρ (sets y a ∷ ds) x b es (choice σ l e c) = stands_before S (set ρ y (known a)) ds x b es c
 
 -- ---- the first unknown class by rank
+-- a class that is known is passed over
+passed : (w : Value) (x : ℕ) (o : Option ℕ) → (w ≡ Unknown → ⊥) → or_else w x o ≡ o
+passed Off x o n = refl
+passed On x o n = refl
+passed Unknown x o n = absurd (n refl)
+
 pub first_at_rank : (v : ℕ → Value) (order : List ℕ) (k : ℕ) → k < length order → v (get_or order k 0) ≡ Unknown → ((j : ℕ) → j < k → v (get_or order j 0) ≡ Unknown → ⊥) → first_unknown v order ≡ Some (get_or order k 0)
 first_at_rank v [] k l u h = absurd (omega arith)
 first_at_rank v (x ∷ xs) zero l u h = ap (λ (w : Value). or_else w x (first_unknown v xs)) u
-first_at_rank v (x ∷ xs) (suc k) l u h = skip (v x) (h 0 (omega arith)) (first_at_rank v xs k (omega arith) u (λ j m. h (suc j) (omega arith)))
-  where
-    skip : (w : Value) → (w ≡ Unknown → ⊥) → first_unknown v xs ≡ Some (get_or xs k 0) → or_else w x (first_unknown v xs) ≡ Some (get_or xs k 0)
-    skip Off n e = e
-    skip On n e = e
-    skip Unknown n e = absurd (n refl)
+first_at_rank v (x ∷ xs) (suc k) l u h = passed (v x) x (first_unknown v xs) (h 0 (omega arith)) ∙ first_at_rank v xs k (omega arith) u (λ j m. h (suc j) (omega arith))
 
 pub first_nowhere : (v : ℕ → Value) (order : List ℕ) → ((j : ℕ) → j < length order → v (get_or order j 0) ≡ Unknown → ⊥) → first_unknown v order ≡ None
 first_nowhere v [] h = refl
-first_nowhere v (x ∷ xs) h = skip (v x) (h 0 (omega arith)) (first_nowhere v xs (λ j m. h (suc j) (omega arith)))
-  where
-    skip : (w : Value) → (w ≡ Unknown → ⊥) → first_unknown v xs ≡ None → or_else w x (first_unknown v xs) ≡ None
-    skip Off n e = e
-    skip On n e = e
-    skip Unknown n e = absurd (n refl)
+first_nowhere v (x ∷ xs) h = passed (v x) x (first_unknown v xs) (h 0 (omega arith)) ∙ first_nowhere v xs (λ j m. h (suc j) (omega arith))
 
 -- what is known stays known
 pub known_still : (v w : ℕ → Value) → Below v w → (x : ℕ) → (v x ≡ Unknown → ⊥) → w x ≡ Unknown → ⊥

@@ -8,6 +8,7 @@ use Rattle.codes.specs.Laws.{known}
 use Rattle.systems.specs.Systems.{In, here, there, Sys, at, whole, Sol, Proper, unknowns}
 use Rattle.systems.specs.Settling.{Least}
 use Rattle.systems.proofs.Base.{known_inj}
+use Rattle.systems.proofs.Gathered.{in_left, in_right, in_either}
 use Rattle.systems.proofs.Solutions.{sol_closed, closed_sol, at_map, at_known}
 use Rattle.histories.specs.Searches.{Decision, sets, base, first_unknown, Turns, Stands, State, Says, finished, Back, Move, tell, choose, turn, finish, tells, counts, Run, begun, moved, Sooner, side, bit, ToCome, index}
 use Rattle.histories.specs.Laws.{Ascending, Told, RunsTell}
@@ -16,19 +17,12 @@ use Rattle.histories.proofs.Sides.{on_side, turn_side, push_side, bit_le}
 use Rattle.histories.proofs.Standing.{stands_push, stands_turn, stands_adds, stands_few, under_below, below_under, sooner_side}
 
 -- ---- one more at the end of a list
+in_one : {A : Type 0} (a b : A) → In b (a ∷ []) → b ≡ a
+in_one a b here = refl
+in_one a b (there k) = elim k [ ]
+
 in_push : {A : Type 0} (l : List A) (a b : A) → In b (l ++ a ∷ []) → In b l ⊎ (b ≡ a)
-in_push [] a b here = inr refl
-in_push [] a b (there m) = elim m [ ]
-in_push (c ∷ l) a b here = inl here
-in_push (c ∷ l) a b (there m) = elim (in_push l a b m) [ inl k ↦ inl (there k) | inr e ↦ inr e ]
-
-in_old : {A : Type 0} {b : A} {l : List A} (a : A) → In b l → In b (l ++ a ∷ [])
-in_old a here = here
-in_old a (there m) = there (in_old a m)
-
-in_new : {A : Type 0} (l : List A) (a : A) → In a (l ++ a ∷ [])
-in_new [] a = here
-in_new (c ∷ l) a = there (in_new l a)
+in_push l a b m = elim (in_either l (a ∷ []) b m) [ inl k ↦ inl k | inr k ↦ inr (in_one a b k) ]
 
 ascending_push : (o : List ℕ) (fs : List (List Bool)) (g : List Bool) → Ascending o fs → ((f : List Bool) → In f fs → Sooner o f g) → Ascending o (fs ++ g ∷ [])
 ascending_push o [] g h k = ((λ f m. elim m [ ]), tt)
@@ -124,8 +118,8 @@ module _ (S : Sys) (proper : Proper S) (from : State) where
             | inr e ↦ rw e (find_to_come, omega (arith, find_under))
           ];
           complete = λ g t h. elim (cases_lt (side g ds) 1) [
-            | inl k ↦ in_old f (v.complete g t (omega arith))
-            | inr k ↦ rw (find_only g t.solves (omega arith)) (in_new fs f)
+            | inl k ↦ in_left (f ∷ []) (v.complete g t (omega arith))
+            | inr k ↦ rw (find_only g t.solves (omega arith)) (in_right fs here)
           ];
           gone = λ g s h. omega (arith, v.gone g s h);
           ascending = ascending_push S.order fs f v.ascending

@@ -1,3 +1,4 @@
+pub mod Below
 pub mod Chains
 pub mod Dictionary
 pub mod Generations

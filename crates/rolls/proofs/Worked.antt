@@ -1,22 +1,11 @@
 -- The worked examples, by computing every instance.
-use Rattle.std.proofs.Common.{◌≡◌, ℕ, zero, suc, ◌+◌, ◌<◌, Bool, true, false, not, ◌&&◌, List, [], ◌∷◌, sym, refl, inl, inr, arith, lit<}
-use Rattle.std.proofs.lemmas.Bool.{and_parts, both_ways, cases_order}
+use Rattle.std.proofs.Common.{◌≡◌, ℕ, ◌+◌, ◌<◌, Bool, true, false, not, List, [], ◌∷◌, sym, refl, arith, lit<}
+use Rattle.std.proofs.lemmas.Bool.{both_ways}
 use Rattle.rules.specs.declared.rule.Rule.{Rule}
 use Rattle.rules.specs.Answers.{answer}
 use Rattle.rolls.specs.Examples.{RollsWorked, plainly, around_torus, two_by_two, one_cell, down_right, life, crowded, glider, O}
 use Rattle.rolls.specs.Rolls.{Surface, InstanceHolds, value, total, around, successor, ninth}
-
--- whether a test passes at each number below n
-all_below : ℕ → (ℕ → Bool) → Bool
-all_below zero p = true
-all_below (suc n) p = p n && all_below n p
-
-all_below_each : (n : ℕ) (p : ℕ → Bool) → all_below n p ≡ true → (k : ℕ) → k < n → p k ≡ true
-unfolding all_below
-all_below_each zero p e k h = absurd (omega arith)
-all_below_each (suc n) p e k h =
-    let parts = and_parts (p n) (all_below n p) e in
-    elim (cases_order k n) [ inl same ↦ rw same parts.0 | inr (inl less) ↦ all_below_each n p parts.1 k less | inr (inr more) ↦ absurd (omega arith) ]
+use Rattle.rolls.proofs.Below.{all_below, all_below_each}
 
 same : Bool → Bool → Bool
 same true b = b

@@ -2,7 +2,6 @@
 use Rattle.std.proofs.Common.{◌≡◌, ℕ, zero, suc, ◌<◌, Bool, true, false, ◌⊎◌, List, [], ◌∷◌, map, length, get_or, refl, ap, inl, inr, arith}
 use Rattle.codes.specs.declared.value.Value.{Value}
 use Rattle.codes.specs.declared.value.Value.TheVariants.{Off, On, Unknown}
-use Rattle.codes.specs.Codes.{is_unknown}
 use Rattle.codes.specs.Laws.{known}
 use Rattle.systems.specs.Systems.{In, here, there, unknown_one}
 
@@ -24,11 +23,6 @@ pub view : (v : Value) → (v ≡ Unknown) ⊎ ((b : Bool) × (v ≡ known b))
 view Off = inr (false, refl)
 view On = inr (true, refl)
 view Unknown = inl refl
-
-pub unknown_value : (v : Value) → is_unknown v ≡ true → v ≡ Unknown
-unknown_value Off e = never (cc)
-unknown_value On e = never (cc)
-unknown_value Unknown e = refl
 
 -- two states that are not different are the same
 pub same_bool : (a b : Bool) → ((a ≡ b → ⊥) → ⊥) → a ≡ b

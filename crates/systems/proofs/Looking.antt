@@ -12,7 +12,8 @@ use Rattle.codes.proofs.Bits.{lowest, few, centre_tells, successor_tells, neighb
 use Rattle.systems.specs.declared.instance.Instance.{Instance}
 use Rattle.systems.specs.Systems.{In, here, there, Sys, at, sum_of, unknown_one, unknown_among, descriptor_of, code_for, AllSay, Forces, in_centre, in_successor, in_neighbour, Mentions, as_centre, as_successor, as_neighbour, Below, unknowns, Proper}
 use Rattle.systems.specs.Settling.{Step, Steps, stop, more, torn_class, no_fit, Settles, Meets, set_if, set_one, set_each, said_by, said_centre, said_successor, said_neighbours, set_by, first_loud, and_then, settle_at, settle, unless_torn, settled}
-use Rattle.systems.proofs.Base.{never, known_unknown, view, unknown_value}
+use Rattle.codes.proofs.Pairs.{unknown_value}
+use Rattle.systems.proofs.Base.{never, known_unknown, view}
 use Rattle.systems.proofs.Settle.{set_adds, forces_up, steps_add, steps_long, steps_then, unknowns_set}
 
 -- what two bits say

@@ -1,8 +1,9 @@
 -- How the code of an instance is read from a table, and what it says by masks.
-use Rattle.std.proofs.Common.{◌≡◌, ℕ, zero, suc, ◌+◌, ◌*◌, ◌<◌, ◌≤◌, Bool, true, false, not, ◌&&◌, eqb, List, [], ◌∷◌, length, get_or, take, refl, ap, ◌∙◌, inl, inr, arith}
+use Rattle.std.proofs.Common.{◌≡◌, ℕ, zero, suc, ◌+◌, ◌*◌, ◌<◌, ◌≤◌, Bool, true, false, not, eqb, List, [], ◌∷◌, length, get_or, take, refl, ap, ◌∙◌, arith}
 use lib.Bits.{bit_and}
 use Rattle.std.proofs.lemmas.List.{take_all}
-use Rattle.std.proofs.lemmas.Bool.{and_parts, eqb-true, eq-eqb, ne_eqb, cases_order, cond-true, cond-false}
+use Rattle.std.proofs.lemmas.Bool.{eqb-true, eq-eqb, ne_eqb, cond-true, cond-false}
+use Rattle.rolls.proofs.Below.{all_below, all_below_each}
 use Rattle.codes.specs.declared.table.Table.{Table}
 use Rattle.codes.specs.declared.value.Value.{Value}
 use Rattle.codes.specs.declared.value.Value.TheVariants.{Off, On, Unknown}
@@ -65,17 +66,6 @@ module _ (v : ℕ → Value) where
   code_few rule i = few rule (descriptor_of v i)
 
 -- ---- what a code says by masks, computed for every code
-all_below : ℕ → (ℕ → Bool) → Bool
-all_below zero p = true
-all_below (suc n) p = p n && all_below n p
-
-all_below_each : (n : ℕ) (p : ℕ → Bool) → all_below n p ≡ true → (k : ℕ) → k < n → p k ≡ true
-unfolding all_below
-all_below_each zero p e k h = absurd (omega arith)
-all_below_each (suc n) p e k h =
-    let both = and_parts (p n) (all_below n p) e in
-    elim (cases_order k n) [ inl same ↦ rw same both.0 | inr (inl less) ↦ all_below_each n p both.1 k less | inr (inr more) ↦ absurd (omega arith) ]
-
 number_inj : (a b : Value) → number_of a ≡ number_of b → a ≡ b
 number_inj Off Off e = refl
 number_inj On On e = refl

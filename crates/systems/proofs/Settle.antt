@@ -1,14 +1,15 @@
 -- Settling: steps stay below closed values, so that its sequence does not matter.
-use Rattle.std.proofs.Common.{◌≡◌, ℕ, zero, suc, ◌+◌, ◌<◌, ◌≤◌, Bool, true, false, ◌⊎◌, List, [], ◌∷◌, length, set, sym, refl, ap, ◌∙◌, inl, inr, arith, length-set}
+use Rattle.std.proofs.Common.{◌≡◌, ℕ, zero, suc, ◌+◌, ◌%◌, ◌^◌, ◌<◌, ◌≤◌, Bool, true, false, eqb, ◌⊎◌, List, [], ◌∷◌, length, set, sym, refl, ap, ◌∙◌, inl, inr, arith, length-set}
+use Rattle.std.proofs.Math.Nat.{zero-div}
 use Rattle.std.proofs.lemmas.List.{ext_get_or, get_or-set_same}
 use Rattle.std.proofs.lemmas.Bool.{cases_Bool, both_ways, eqb-true, eq-eqb, lt-ltb}
 use Rattle.rules.specs.Answers.{holds}
 use Rattle.codes.specs.declared.value.Value.{Value}
 use Rattle.codes.specs.declared.value.Value.TheVariants.{Off, On, Unknown}
 use Rattle.codes.specs.Values.{agrees}
-use Rattle.codes.specs.Codes.{Parts, Pair, fitting, is_empty, is_unknown, is, says_centre, says_successor, says_neighbours, edge, code}
+use Rattle.codes.specs.Codes.{Parts, Pair, fitting, is_empty, is_unknown, says_centre, says_successor, says_neighbours, edge, code}
 use Rattle.codes.specs.Laws.{known, KnowsMore, centre_bit, successor_bit, neighbour_bit}
-use Rattle.codes.proofs.Pairs.{Fit, every_fit, fit_every, fit_empty}
+use Rattle.codes.proofs.Pairs.{is_state, Fit, every_fit, fit_every, fit_empty}
 use Rattle.codes.proofs.Bits.{contradicted, centre_tells, successor_tells, neighbours_tell}
 use Rattle.codes.proofs.Knowing.{fit_less, same_edge, stays_forced}
 use Rattle.systems.specs.declared.instance.Instance.{Instance}
@@ -32,11 +33,6 @@ agreed On true true g e = refl
 agreed On true false g e = never (cc)
 agreed On false a g e = never (cc)
 agreed Unknown c a g e = absurd (known_unknown a (sym e))
-
-is_so : (b a : Bool) → is b a ≡ true → a ≡ b
-is_so true a e = e
-is_so false false e = refl
-is_so false true e = never (cc)
 
 -- where some pair fits, what every fitting pair shows of two states stands
 pub by_fit : (rule : Bool → ℕ → Bool) (d : Parts) → (code rule d ≡ 1 → ⊥) → (a b : Bool) → ((p : Pair) → Fit rule d p → a ≡ b) → a ≡ b
@@ -101,9 +97,9 @@ module _ (v w : ℕ → Value) (h : Below v w) where
     forces_known : (p : Pair) → Fit rule (descriptor_of w i) p → {x : ℕ} {b : Bool} → v x ≡ Unknown → Forces rule v i x b → (a : Bool) → w x ≡ known a → a ≡ b
     unfolding AllSay
     forces_known p f {b = b} e (in_centre s all) a k =
-        sym (agreed (w i.centre) p.centre a f.centre (ap w s ∙ k)) ∙ is_so b p.centre (every_fit (says_centre b) rule (descriptor_of v i) all p (less p f))
+        sym (agreed (w i.centre) p.centre a f.centre (ap w s ∙ k)) ∙ is_state b p.centre (every_fit (says_centre b) rule (descriptor_of v i) all p (less p f))
     forces_known p f {b = b} e (in_successor s all) a k =
-        sym (agreed (w i.successor) (rule p.centre p.sum) a f.successor (ap w s ∙ k)) ∙ is_so b (rule p.centre p.sum) (every_fit (says_successor rule b) rule (descriptor_of v i) all p (less p f))
+        sym (agreed (w i.successor) (rule p.centre p.sum) a f.successor (ap w s ∙ k)) ∙ is_state b (rule p.centre p.sum) (every_fit (says_successor rule b) rule (descriptor_of v i) all p (less p f))
     forces_known p f {b = false} e (in_neighbour m all) false k = refl
     forces_known p f {b = false} e (in_neighbour m all) true k = absurd (omega (arith, sum_at false all p f, f.low, on_grow e k m))
     forces_known p f {b = true} e (in_neighbour m all) true k = refl
@@ -114,17 +110,8 @@ module _ (v w : ℕ → Value) (h : Below v w) where
     one_stays e = (stays_forced rule (descriptor_of v i) (descriptor_of w i) (knows_more i)).contradiction e
 
 -- ---- a quiet instance
-zero_centre : (b : Bool) → holds 0 (centre_bit b) ≡ false
-zero_centre false = refl
-zero_centre true = refl
-
-zero_successor : (b : Bool) → holds 0 (successor_bit b) ≡ false
-zero_successor false = refl
-zero_successor true = refl
-
-zero_neighbour : (b : Bool) → holds 0 (neighbour_bit b) ≡ false
-zero_neighbour false = refl
-zero_neighbour true = refl
+zero_bit : (bit : ℕ) → holds 0 bit ≡ false
+zero_bit bit = ap (λ (n : ℕ). eqb (n % 2) 1) (zero-div (2 ^ bit))
 
 module _ (rule : Bool → ℕ → Bool) (v : ℕ → Value) (i : Instance) (q : code_for rule v i ≡ 0) where
   pub not_one : code rule (descriptor_of v i) ≡ 1 → ⊥
@@ -134,19 +121,19 @@ module _ (rule : Bool → ℕ → Bool) (v : ℕ → Value) (i : Instance) (q : 
   pub some_fits : is_empty (fitting rule (descriptor_of v i)) ≡ false
   some_fits = elim (cases_Bool (is_empty (fitting rule (descriptor_of v i)))) [ inl e ↦ absurd (not_one (contradicted rule (descriptor_of v i) e)) | inr e ↦ e ]
 
-  silent : (bit : ℕ) → holds 0 bit ≡ false → holds (code rule (descriptor_of v i)) bit ≡ true → ⊥
+  silent : (bit : ℕ) → holds (code rule (descriptor_of v i)) bit ≡ true → ⊥
   unfolding code_for
-  silent bit z e = both_ways (holds 0 bit) z (ap (λ (n : ℕ). holds n bit) (sym q) ∙ e)
+  silent bit e = both_ways (holds 0 bit) (zero_bit bit) (ap (λ (n : ℕ). holds n bit) (sym q) ∙ e)
 
   -- it forces no class that is unknown
   pub none_forced : (x : ℕ) (b : Bool) → v x ≡ Unknown → Forces rule v i x b → ⊥
   unfolding AllSay
   none_forced x b u (in_centre e all) =
-      silent (centre_bit b) (zero_centre b) ((centre_tells rule (descriptor_of v i) b).stands some_fits (ap is_unknown (ap v e ∙ u)) all)
+      silent (centre_bit b) ((centre_tells rule (descriptor_of v i) b).stands some_fits (ap is_unknown (ap v e ∙ u)) all)
   none_forced x b u (in_successor e all) =
-      silent (successor_bit b) (zero_successor b) ((successor_tells rule (descriptor_of v i) b).stands some_fits (ap is_unknown (ap v e ∙ u)) all)
+      silent (successor_bit b) ((successor_tells rule (descriptor_of v i) b).stands some_fits (ap is_unknown (ap v e ∙ u)) all)
   none_forced x b u (in_neighbour m all) =
-      silent (neighbour_bit b) (zero_neighbour b)
+      silent (neighbour_bit b)
       ((neighbours_tell rule (descriptor_of v i) b).stands some_fits (lt-ltb 0 (unknown_among v i.neighbours) (unknown_some v u m)) all)
 
 -- ---- setting one class

@@ -2,6 +2,7 @@
 use Rattle.std.proofs.Common.{◌≡◌, ℕ, zero, suc, ◌+◌, ◌<◌, ◌≤◌, Bool, true, false, cond, not, ◌&&◌, ◌||◌, ltb, ◌⊎◌, List, [], ◌∷◌, map, length, get_or, ℤ, ◌+ℤ◌, ◌-ℤ◌, Some, None, Option, sym, refl, ap, ◌∙◌, subst, ap₂, inl, inr, arith}
 use lib.ListN.{length-map}
 use Rattle.std.proofs.lemmas.List.{ext_get_or, get_or-map, get_or_append_left, get_or_push, get_or_past, get_or_default, length_push}
+use Rattle.std.proofs.lemmas.List.Sums.{sum_by-cons}
 use Rattle.std.proofs.lemmas.List.FromFn.{length-map-range_with_len, get_or-map-range_with_len}
 use Rattle.std.proofs.lemmas.Bool.{cases_eq, cases_lt, cases_Bool, both_ways, cond-true, cond_both, and_parts, or_parts, or_cases}
 use Rattle.frames.specs.Frames.{cells, cell_number}
@@ -114,7 +115,7 @@ free_one false false = refl
 unknowns_free : (ms : List Musts) → unknowns (start_of ms) ≡ free_among ms
 unfolding start_of unknowns
 unknowns_free [] = refl
-unknowns_free (m ∷ ms) = ap₂ ◌+◌ (free_one m.off m.on) (unknowns_free ms)
+unknowns_free (m ∷ ms) = ap₂ ◌+◌ (free_one m.off m.on) (unknowns_free ms) ∙ sym (sum_by-cons _ m ms)
 
 module _ (s : Surface) (inside : TiesInside s) where
   start_long : length (start_of (musts_in s)) ≡ class_count s + 1

@@ -28,7 +28,7 @@ join-requires g c =
     let taken = c.in-Some.ensures.steps.3 in
     let size : ties.size ≡ cells (g.S.Plane.means c.args.space.now).frame = ties.sized ∙ ap (λ s. cells (g.S.Plane.means s).frame) c.loop-cell.invariant.space in
     let long : length c.loop-cell.labels ≡ ties.size = c.loop-cell.auto.labels ∙ ap length c.requires ∙ length-range_with_len 0 _ ∙ sym size in
-    (omega (arith, long, taken.cell, mod_below ties.next ties.size ties.some), subst (λ n. Within n c.in-Some.tie) (sym long) taken.within)
+    record { cell = omega (arith, long, taken.cell, mod_below ties.next ties.size ties.some); tie = subst (λ n. Within n c.in-Some.tie) (sym long) taken.within }
 
 pub loop-cell-preserved : goal.loop-cell-preserved
 loop-cell-preserved g c =
