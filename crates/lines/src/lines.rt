@@ -1,16 +1,24 @@
 ghost use Rattle.std.specs.Prelude.{◌≡◌, ◌+◌, ◌<◌, ◌≤◌, length, take, drop, OnSome};
 ghost use Rattle.lines.specs.Lines.{blank, line_length, trimmed};
 ghost use Rattle.lines.specs.Ends.{LineEnd, Trimmed, NextLine};
-ghost use Rattle.lines.specs.Given.{GivenLine};
+ghost use Rattle.lines.specs.Given.{GivenLine, HandsOut};
+ghost use Rattle.std.specs.Iterator.{at_most};
 
 // Whether a byte is a blank: a space, a tab or a carriage return.
 pub fn is_blank(byte: u8) -> bool
     ensures { result ≡ blank byte }
 {
-    match byte as char {
-        ' ' | '\t' | '\r' => true,
-        _ => false,
-    }
+    matches!(byte, b' ' | b'\t' | b'\r')
+}
+
+// How many bytes stand before the first newline, or before the end where there is none.
+fn line_len(text: &[u8]) -> usize
+    ensures value { result ≡ line_length text.now }
+    ensures ends { LineEnd text.now 0 result }
+{
+    text.iter()
+        .position(|byte| *byte == b'\n')
+        .unwrap_or(text.len())
 }
 
 // Where the line that `at` lies in ends: at the next newline, or where the text does.
@@ -19,11 +27,10 @@ pub fn line_end(text: &[u8], at: usize) -> usize
     ensures within { at ≤ length text.now → result ≤ length text.now }
     ensures ends { LineEnd text.now at result }
 {
-    let mut end = at;
-    while end < text.len() && text[end] != b'\n' {
-        end += 1;
+    match text.get(at..) {
+        Some(rest) => at + line_len(rest),
+        None => at,
     }
-    end
 }
 
 // How much of a line is left without the blanks at its end.
@@ -32,21 +39,18 @@ pub fn trimmed_len(line: &[u8]) -> usize
     ensures within { result ≤ length line.now }
     ensures kept { Trimmed line.now result }
 {
-    let mut end = line.len();
-    while end > 0 && is_blank(line[end - 1]) {
-        end -= 1;
-    }
-    end
+    line.iter()
+        .rposition(|byte| !is_blank(*byte))
+        .map_or(0, |last| last + 1)
 }
 
 // What follows the byte at `end`, which parts it from what comes before.
 pub fn after(text: &[u8], end: usize) -> &[u8]
     ensures { result.now ≡ drop (end + 1) text.now }
 {
-    if end < text.len() {
-        &text[end + 1..]
-    } else {
-        &text[text.len()..]
+    match text.get(end..) {
+        Some([_, rest @ ..]) => rest,
+        _ => &[],
     }
 }
 
@@ -70,14 +74,24 @@ impl<'a> Lines<'a> {
         ensures less { OnSome result (length self.new.rest.now < length self.old.rest.now) }
         ensures rest { length self.new.rest.now ≤ length self.old.rest.now }
     {
-        let rest = self.rest;
-        if rest.is_empty() {
+        if self.rest.is_empty() {
             return None;
         }
-        let end = line_end(rest, 0);
-        self.rest = after(rest, end);
-        let line = &rest[0..end];
-        let len = trimmed_len(line);
-        Some(&line[0..len])
+        let end = line_len(self.rest);
+        let line = &self.rest[..end];
+        self.rest = after(self.rest, end);
+        Some(&line[..trimmed_len(line)])
+    }
+}
+
+impl<'a> Iterator for Lines<'a> {
+    type Item = &'a [u8];
+
+    ghost next_gives = { λ old line new. HandsOut old.rest.now new.rest.now line };
+
+    ghost remaining = { λ lines. at_most (length lines.rest.now) };
+
+    fn next(&mut self) -> Option<&'a [u8]> {
+        self.next_line()
     }
 }

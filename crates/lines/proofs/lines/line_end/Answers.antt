@@ -1,36 +1,17 @@
-use Rattle.std.proofs.Common.{◌≡◌, ℕ, get_or, inl, inr, subst, sym, ◌∙◌, arith}
-use Rattle.std.proofs.lemmas.Bool.{cases_order}
-use Rattle.lines.proofs.Ends.{line_more, line_stops, line_ends}
+use Rattle.std.proofs.Common.{◌≡◌, drop, ◌∙◌, subst, arith}
+use Rattle.std.proofs.lemmas.List.{take_rest}
+use Rattle.lines.specs.Ends.{LineEnd}
+use Rattle.lines.proofs.Ends.{line_from, line_past}
 use Rattle.lines.proofs.lines.line_end.Goals as goal
 
-pub loop-end-preserved : goal.loop-end-preserved
-loop-end-preserved c =
-    let i = c.loop-end.invariant in (
-      i.0 ∙ line_more c.args.text.now c.loop-end.end c.loop-end-test.true c.if-text-end-ne10.true,
-      λ h. omega arith,
-      omega arith,
-      λ k low high newline.
-          elim (cases_order k c.loop-end.end) [
-            | inl same ↦ c.if-text-end-ne10.true (subst (λ (n : ℕ). get_or c.args.text.now n 0 ≡ 10) same newline)
-            | inr (inl less) ↦ i.3 k low less newline
-            | inr (inr more) ↦ absurd (omega arith)
-          ],
-    )
+pub returns-in-Some-clause-ends : goal.returns-in-Some-clause-ends
+returns-in-Some-clause-ends c =
+    let text = c.args.text.now in
+    let found = c.in-Some.ensures.lookup.0 in
+    let rest : c.in-Some.rest.now ≡ drop c.args.at text = found.2 ∙ take_rest text c.args.at in
+    line_from text c.args.at c.line_len.result found.0 (subst (λ t. LineEnd t 0 c.line_len.result) rest c.line_len.ensures.ends)
 
-pub returns-else-text-end-ne10 : goal.returns-else-text-end-ne10
-returns-else-text-end-ne10 c =
-    let i = c.loop-end.invariant in
-    record {
-      value = sym (i.0 ∙ line_stops c.args.text.now c.loop-end.end c.loop-end-test.true c.if-text-end-ne10.false);
-      within = i.1;
-      ends = record { on = i.2; within = i.1; none = i.3; stops = λ h. c.if-text-end-ne10.false };
-    }
-
-pub returns-after-loop-end : goal.returns-after-loop-end
-returns-after-loop-end c =
-    let i = c.loop-end.invariant in
-    record {
-      value = sym (i.0 ∙ line_ends c.args.text.now c.loop-end.end c.loop-end-test.false);
-      within = i.1;
-      ends = record { on = i.2; within = i.1; none = i.3; stops = λ h. absurd (omega arith) };
-    }
+pub returns-in-None-clause-value : goal.returns-in-None-clause-value
+returns-in-None-clause-value c =
+    let none = (line_past c.args.text.now c.args.at (omega (arith, c.in-None.ensures.lookup))).1 in
+    omega arith
