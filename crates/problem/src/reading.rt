@@ -106,10 +106,7 @@ pub fn read_problem(text: &[u8]) -> Result<Problem, ProblemFault>
     ensures refuses { length text.now ≤ 65536 → IfErr result (Refuses 65541) }
 {
     if text.len() > 65_536 {
-        return Err(ProblemFault {
-            line: 1,
-            cause: Cause::TooLong,
-        });
+        return at_line(1, Err(Cause::TooLong));
     }
     let mut lines = Lines::new(text);
     let mut problem = read_head(&mut lines)?;
