@@ -1,4 +1,4 @@
-use listing::{PAGE_SIZE, Sink, list_page};
+use listing::{Closed, PAGE_SIZE, Sink, list_page};
 use printing::write_refused;
 use problem::{Problem, read_problem};
 use search::Search;
@@ -11,12 +11,12 @@ struct Kept {
 }
 
 impl Sink for Kept {
-    fn take(&mut self, text: &[u8]) -> bool {
-        self.bytes.extend_from_slice(text).is_ok()
+    fn take(&mut self, text: &[u8]) -> Result<(), Closed> {
+        self.bytes.extend_from_slice(text).map_err(|_| Closed)
     }
 
-    fn rest(&mut self) -> bool {
-        true
+    fn rest(&mut self) -> Result<(), Closed> {
+        Ok(())
     }
 }
 

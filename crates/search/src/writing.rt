@@ -3,7 +3,6 @@ ghost use Rattle.std.specs.Prelude.{◌≡◌, ℕ, ◌+◌, ◌<◌, ◌≤◌,
 use crate::fault::WriteFault;
 use crate::record::Record;
 use codes::Value;
-use std::array;
 use texts::write_pattern;
 
 impl Record {
@@ -19,8 +18,11 @@ impl Record {
         ensures refused { OnErr result (page.new ≡ page.old) }
         ensures within { IfOk result (λ end. end ≤ length page.new) }
     {
+        let mut pattern = [false; 1024];
         let places = self.frame.places() as usize;
-        let pattern: [bool; 1024] = array::from_fn(|cell| cell < places && self.is_on(cell));
+        for (cell, on) in pattern[..places].iter_mut().enumerate() {
+            *on = self.is_on(cell);
+        }
         Ok(write_pattern(page, at, &self.frame, &self.rule, &pattern)?)
     }
 }

@@ -1,14 +1,13 @@
-use Rattle.std.proofs.Common.{◌≡◌, ℕ, ◌+◌, ◌<◌, get_or, vec_items, vec_len, arith}
+use Rattle.std.proofs.Common.{◌≡◌, ℕ, ◌+◌, ◌<◌, get_or, vec_items, vec_len, arith, rules}
 use Rattle.codes.specs.declared.value.Value.TheVariants.{Unknown}
 use Rattle.settling.proofs.Counted.{set_known}
 use Rattle.classes.proofs.Places.{each_more}
 use Rattle.settling.proofs.known.Known.set.Goals as goal
-use Rattle.settling.proofs.known.Known.set.Goals.{in-Unknown, in_default}
 
 pub push_reserved-requires : goal.push_reserved-requires
 push_reserved-requires c =
     let was = c.args.self.now in
-    let unknown : c.index.result.now ≡ Unknown = elim c.match-matches.branch [ in-Unknown w ↦ w.in-Unknown.is | in_default w ↦ cc ] in
+    let unknown : c.index.result.now ≡ Unknown = search rules in
     let here : get_or (vec_items was.values) c.args.class Unknown ≡ Unknown = cc in
     let fewer = set_known (vec_items was.values) c.args.class c.from.result c.args.on (omega (arith, was.values.ok.0)) here c.from.ensures in
     omega (arith, fewer, was.room, was.reserved)
@@ -16,7 +15,7 @@ push_reserved-requires c =
 pub invariant_of-self : goal.invariant_of-self
 invariant_of-self c =
     let was = c.args.self.now in
-    let unknown : c.index.result.now ≡ Unknown = elim c.match-matches.branch [ in-Unknown w ↦ w.in-Unknown.is | in_default w ↦ cc ] in
+    let unknown : c.index.result.now ≡ Unknown = search rules in
     let here : get_or (vec_items was.values) c.args.class Unknown ≡ Unknown = cc in
     let fewer = set_known (vec_items was.values) c.args.class c.from.result c.args.on (omega (arith, was.values.ok.0)) here c.from.ensures in
     let told = c.push_reserved.ensures in
