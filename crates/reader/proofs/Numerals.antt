@@ -6,7 +6,6 @@ use Rattle.std.proofs.lemmas.Bool.{cond-true, cond-false, le-leb, lt-leb, and_fr
 use Rattle.rle.specs.declared.fault.ReadCause.TheVariants.{Byte, Ended, Size}
 use Rattle.rle.specs.Scans.{good, bad, digit, digits_on, numeral, judged}
 use Rattle.reader.specs.Left.{first_of, longer_by}
-use Rattle.reader.proofs.Fronts.{never}
 
 is_between : (low high b : ℕ) → low ≤ b → b ≤ high → (leb low b && leb b high) ≡ true
 is_between low high b l h = and_from _ _ (le-leb low b l) (le-leb b high h)
@@ -15,12 +14,12 @@ is_digit : (n m b : ℕ) → cond (digit b) (Some (n * 10 + (b - 48))) None ≡ 
 is_digit n m b h =
     ⊎_elim
     (λ e. let same = sym (cond-true (digit b) (Some (n * 10 + (b - 48))) None e) ∙ h in (e, cc))
-    (λ e. let none = sym (cond-false (digit b) (Some (n * 10 + (b - 48))) None e) ∙ h in absurd (never (cc)))
+    (λ e. let none = sym (cond-false (digit b) (Some (n * 10 + (b - 48))) None e) ∙ h in cc)
     (cases_Bool (digit b))
 
 no_digit : (n b : ℕ) → cond (digit b) (Some (n * 10 + (b - 48))) None ≡ None → digit b ≡ false
 no_digit n b h =
-    ⊎_elim (λ e. let some = sym (cond-true (digit b) (Some (n * 10 + (b - 48))) None e) ∙ h in absurd (never (cc))) (λ e. e) (cases_Bool (digit b))
+    ⊎_elim (λ e. let some = sym (cond-true (digit b) (Some (n * 10 + (b - 48))) None e) ∙ h in cc) (λ e. e) (cases_Bool (digit b))
 
 pub digits_over : (more n : ℕ) (t : List ℕ) → longer_by n t ≡ None → good n t ≡ digits_on more n t
 unfolding digits_on
@@ -30,19 +29,19 @@ digits_over (suc more) n (b ∷ bs) h = sym (cond-false (digit b) _ _ (no_digit 
 
 pub digits_full : (n m : ℕ) (t : List ℕ) → longer_by n t ≡ Some m → bad Byte t ≡ digits_on 0 n t
 unfolding digits_on
-digits_full n m [] h = absurd (never (cc))
+digits_full n m [] h = cc
 digits_full n m (b ∷ bs) h = sym (cond-true (digit b) _ _ (is_digit n m b h).0)
 
 digits_more : (more n m : ℕ) (t : List ℕ) → longer_by n t ≡ Some m → digits_on more m (drop 1 t) ≡ digits_on (suc more) n t
 unfolding digits_on
-digits_more more n m [] h = absurd (never (cc))
+digits_more more n m [] h = cc
 digits_more more n m (b ∷ bs) h =
     let is = is_digit n m b h in
     ap (λ k. digits_on more k bs) (sym is.1) ∙ sym (cond-true (digit b) _ _ is.0)
 
 -- one digit more
 pub grown : (n m i : ℕ) (t : List ℕ) → longer_by n t ≡ Some m → n < 10 ^ i → m < 10 ^ (i + 1)
-grown n m i [] h few = absurd (never (cc))
+grown n m i [] h few = cc
 grown n m i (b ∷ bs) h few =
     let is = is_digit n m b h in
     let both = and_parts (leb 48 b) (leb b 57) is.0 in
@@ -66,7 +65,7 @@ digits_last i n t h = let all : 0 ≡ 4 - i = omega arith in ap (λ k. digits_on
 -- a number begins with a digit other than 0
 pub numeral_digits : (t : List ℕ) (b : ℕ) → ok_or (first_of t) Ended ≡ Ok b → 49 ≤ b → b ≤ 57 → digits_on 4 0 t ≡ numeral t
 unfolding numeral digits_on
-numeral_digits [] b e low high = absurd (never (cc))
+numeral_digits [] b e low high = cc
 numeral_digits (x ∷ bs) b e low high =
     let same : x ≡ b = cc in
     cond-true (digit x) _ _ (is_between 48 57 x (omega arith) (omega arith))

@@ -8,7 +8,7 @@ use Rattle.lines.specs.Lines.{blank}
 use Rattle.rle.specs.declared.fault.ReadCause.TheVariants.{TooLong, Byte, Size, Outside, Ended}
 use Rattle.rle.specs.Forms.{Each, Numeral}
 use Rattle.rle.specs.Scans.{Scan, good, bad, and_then, past, digit, digits_on, numeral, judged, size}
-use Rattle.rle.proofs.Pasts.{never, past_stop}
+use Rattle.rle.proofs.Pasts.{past_stop}
 use Rattle.rle.proofs.Seen.{Seen, Same}
 
 -- one digit more at a number's end
@@ -95,8 +95,8 @@ one_more m n b t some few e (bad Ended rest) h = tt
 
 see_digits : (m n : ℕ) (t : List ℕ) → m ≤ 3 → 1 ≤ n → n ≤ most m → Seen Same (Longer n) (digits_on m n) t (digits_on m n t)
 unfolding digits_on
-see_digits zero n [] few some small = ([], (sym (append-nil (decimal n)), some, small), refl, λ c r v f. never (cc))
-see_digits (suc m) n [] few some small = ([], (sym (append-nil (decimal n)), some, within_four (suc m) n small), refl, λ c r v f. never (cc))
+see_digits zero n [] few some small = ([], (sym (append-nil (decimal n)), some, small), refl, λ c r v f. cc)
+see_digits (suc m) n [] few some small = ([], (sym (append-nil (decimal n)), some, within_four (suc m) n small), refl, λ c r v f. cc)
 see_digits zero n (b ∷ t) few some small =
     let P : Scan ℕ → Type 0 = Seen Same (Longer n) (digits_on 0 n) (b ∷ t) in
     ⊎_elim
@@ -204,9 +204,9 @@ small : (t : List ℕ) (r : Scan ℕ) (n : ℕ) (rest : List ℕ) → and_then r
 small t (good m v) n rest e =
     ⊎_elim
     (λ h. let same : good m v ≡ good n rest = sym (cond-true (leb m 32) (good m v) (bad Size t) h) ∙ e in let one : m ≡ n = cc in subst (λ x. x ≤ 32) one (leb-true m 32 h))
-    (λ h. let other : bad Size t ≡ good n rest = sym (cond-false (leb m 32) (good m v) (bad Size t) h) ∙ e in never (cc))
+    (λ h. let other : bad Size t ≡ good n rest = sym (cond-false (leb m 32) (good m v) (bad Size t) h) ∙ e in cc)
     (cases_Bool (leb m 32))
-small t (bad c v) n rest e = never (cc)
+small t (bad c v) n rest e = cc
 
 pub size_small : (t : List ℕ) (n : ℕ) (rest : List ℕ) → size t ≡ good n rest → n ≤ 32
 unfolding size
