@@ -41,19 +41,19 @@ one_less (suc (suc (suc k))) n d few h small = absurd (omega arith)
 abbrev Longer : ℕ → ℕ → List ℕ → Type 0
 Longer n m u = (decimal m ≡ decimal n ++ u) × (1 ≤ m) × (m ≤ 9999)
 
-digit_parts : (b : ℕ) → digit b ≡ true → (48 ≤ b) × (b ≤ 57)
+pub digit_parts : (b : ℕ) → digit b ≡ true → (48 ≤ b) × (b ≤ 57)
 digit_parts b e = let p = and_parts (leb 48 b) (leb b 57) e in (leb-true 48 b p.0, leb-true b 57 p.1)
 
-digits_on_step : (m n b : ℕ) (t : List ℕ) → digit b ≡ true → digits_on (suc m) n (b ∷ t) ≡ digits_on m (n * 10 + (b - 48)) t
+pub digits_on_step : (m n b : ℕ) (t : List ℕ) → digit b ≡ true → digits_on (suc m) n (b ∷ t) ≡ digits_on m (n * 10 + (b - 48)) t
 unfolding digits_on
 digits_on_step m n b t e = cond-true (digit b) _ _ e
 
-digits_stop : (m n b : ℕ) (t : List ℕ) → digit b ≡ false → digits_on m n (b ∷ t) ≡ good n (b ∷ t)
+pub digits_stop : (m n b : ℕ) (t : List ℕ) → digit b ≡ false → digits_on m n (b ∷ t) ≡ good n (b ∷ t)
 unfolding digits_on
 digits_stop zero n b t e = cond-false (digit b) _ _ e
 digits_stop (suc m) n b t e = cond-false (digit b) _ _ e
 
-digits_full : (n b : ℕ) (t : List ℕ) → digit b ≡ true → digits_on 0 n (b ∷ t) ≡ bad Byte (b ∷ t)
+pub digits_full : (n b : ℕ) (t : List ℕ) → digit b ≡ true → digits_on 0 n (b ∷ t) ≡ bad Byte (b ∷ t)
 unfolding digits_on
 digits_full n b t e = cond-true (digit b) _ _ e
 
@@ -120,7 +120,7 @@ leading b = leb 49 b && leb b 57
 leading_parts : (b : ℕ) → leading b ≡ true → (49 ≤ b) × (b ≤ 57)
 leading_parts b e = let p = and_parts (leb 49 b) (leb b 57) e in (leb-true 49 b p.0, leb-true b 57 p.1)
 
-numeral_starts : (b : ℕ) (t : List ℕ) → leading b ≡ true → numeral (b ∷ t) ≡ digits_on 3 (b - 48) t
+pub numeral_starts : (b : ℕ) (t : List ℕ) → leading b ≡ true → numeral (b ∷ t) ≡ digits_on 3 (b - 48) t
 unfolding numeral
 numeral_starts b t e = cond-true (leading b) _ _ e
 
@@ -168,7 +168,7 @@ see_numeral (b ∷ t) =
     (λ e. subst P (sym (numeral_none b t e)) ([], b, t, refl, refl, (1, 49 ∷ [], one_numeral), λ v. numeral_none b v e))
     (cases_Bool (leading b))
 
-size_judged : (n : ℕ) (start rest : List ℕ) → n ≤ 32 → judged start n rest ≡ good n rest
+pub size_judged : (n : ℕ) (start rest : List ℕ) → n ≤ 32 → judged start n rest ≡ good n rest
 size_judged n start rest h = cond-true (leb n 32) _ _ (le-leb n 32 h)
 
 judge : (t : List ℕ) (r : Scan ℕ) → Seen Same Numeral numeral t r → Seen Same Numeral size t (and_then r (judged t))
