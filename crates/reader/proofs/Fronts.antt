@@ -1,17 +1,9 @@
 -- What the first byte tells of passing bytes and of reading a part.
-use Rattle.std.proofs.Common.{◌≡◌, ℕ, ◌<◌, Bool, true, false, List, [], ◌∷◌, length, get_or, drop, Some, None, MatchOption, sym, refl, ap, ◌∙◌, ⊎_elim, arith}
+use Rattle.std.proofs.Common.{◌≡◌, ℕ, ◌<◌, Bool, true, false, List, [], ◌∷◌, length, get_or, drop, Some, None, MatchOption, sym, refl, ◌∙◌, ⊎_elim}
 use Rattle.std.proofs.lemmas.Bool.{cond-true, cond-false, false≢true, cases_lt}
 use Rattle.std.proofs.lemmas.List.{at_drop_more, at_drop_all}
 use Rattle.rle.specs.Scans.{past}
 use Rattle.reader.specs.Left.{first_of}
-
-pub first_some : (t : List ℕ) (b : ℕ) → first_of t ≡ Some b → t ≡ b ∷ drop 1 t
-first_some [] b e = cc
-first_some (x ∷ xs) b e = let same : x ≡ b = cc in ap (λ y. y ∷ xs) same
-
-pub first_none : (t : List ℕ) → first_of t ≡ None → t ≡ []
-first_none [] e = refl
-first_none (x ∷ xs) e = cc
 
 -- where a first byte is left, the text goes on there with it
 pub first_within : (t : List ℕ) (i b : ℕ) → first_of (drop i t) ≡ Some b → i < length t

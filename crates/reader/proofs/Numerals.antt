@@ -1,11 +1,11 @@
 -- How numbers are read digit by digit.
-use Rattle.std.proofs.Common.{◌≡◌, ℕ, zero, suc, ◌+◌, ◌-◌, ◌*◌, ◌^◌, ◌<◌, ◌≤◌, true, false, cond, ◌&&◌, leb, List, [], ◌∷◌, drop, Some, None, Ok, sym, refl, ap, ◌∙◌, ⊎_elim, pow-suc, add-one, arith}
+use Rattle.std.proofs.Common.{◌≡◌, ℕ, suc, ◌+◌, ◌-◌, ◌*◌, ◌^◌, ◌<◌, ◌≤◌, true, false, cond, ◌&&◌, leb, List, [], ◌∷◌, drop, Some, None, Ok, sym, refl, ap, ◌∙◌, ⊎_elim, pow-suc, add-one, arith}
 use Rattle.std.specs.Option.{ok_or}
 use native.Mathlib.Nat.{pow-le-pow_right}
-use Rattle.std.proofs.lemmas.Bool.{cond-true, cond-false, le-leb, lt-leb, and_from, cases_Bool, and_parts, leb-true}
+use Rattle.std.proofs.lemmas.Bool.{cond-true, cond-false, le-leb, and_from, cases_Bool}
 use Rattle.rle.proofs.Numerals.{digit_parts, digits_on_step, digits_stop, digits_full, numeral_starts}
-use Rattle.rle.specs.declared.fault.ReadCause.TheVariants.{Byte, Ended, Size}
-use Rattle.rle.specs.Scans.{good, bad, digit, digits_on, numeral, judged}
+use Rattle.rle.specs.declared.fault.ReadCause.TheVariants.{Byte, Ended}
+use Rattle.rle.specs.Scans.{good, bad, digit, digits_on, numeral}
 use Rattle.reader.specs.Left.{first_of, longer_by}
 
 is_between : (low high b : ℕ) → low ≤ b → b ≤ high → (leb low b && leb b high) ≡ true
