@@ -2,7 +2,7 @@ use listing::{Closed, PAGE_SIZE, Sink, list_page};
 use printing::write_refused;
 use problem::{Problem, read_problem};
 use search::Search;
-use std::alloc::{AllocError, Global};
+use std::alloc::Global;
 
 // All that a page prints, kept.
 #[derive(Drop)]
@@ -20,33 +20,29 @@ impl Sink for Kept {
     }
 }
 
-// Whether listing a problem prints what is expected.
-fn listing_agrees(heap: Global, problem: &Problem, expected: &[u8]) -> Result<bool, AllocError> {
+// All that listing a problem prints; none where it is not listed to its end.
+fn listed(heap: Global, problem: &Problem) -> Option<Vec<u8>> {
     let mut search = Search::blank();
-    if search
+    search
         .open(heap, &problem.space, &problem.order, &problem.rule)
-        .is_err()
-    {
-        return Ok(false);
-    }
+        .ok()?;
     let mut page = [0u8; PAGE_SIZE];
     let mut kept = Kept {
         bytes: Vec::new(heap),
     };
-    let listed = list_page(&mut search, &mut page, &mut kept).is_ok();
-    Ok(listed && kept.bytes.as_slice() == expected)
+    list_page(&mut search, &mut page, &mut kept).ok()?;
+    let Kept { bytes } = kept;
+    Some(bytes)
 }
 
 // Whether a problem prints what is expected, a refusal included.
-pub fn page_agrees(heap: Global, text: &[u8], expected: &[u8]) -> Result<bool, AllocError> {
+pub fn page_agrees(heap: Global, text: &[u8], expected: &[u8]) -> bool {
     match read_problem(text) {
-        Ok(problem) => listing_agrees(heap, &problem, expected),
+        Ok(problem) => listed(heap, &problem).is_some_and(|bytes| bytes.as_slice() == expected),
         Err(fault) => {
             let mut page = [b'.'; 64];
-            match write_refused(&mut page, 0, &fault) {
-                Ok(end) if end <= 64 => Ok(&page[0..end] == expected),
-                _ => Ok(false),
-            }
+            let end = write_refused(&mut page, 0, &fault);
+            end.is_ok_and(|end| page.get(..end) == Some(expected))
         }
     }
 }

@@ -13,7 +13,7 @@ use Rattle.reader.specs.declared.reader.Reader.{Reader}
 use Rattle.reader.specs.Calls.{Stand, LocatedShown, fault_at, answer_of, stand_after, item_here}
 use Rattle.reader.specs.Left.{left, outcome}
 use Rattle.reader.specs.Shown.{TakenShown, shown_taken, told_taken, retold, Took}
-use Rattle.reader.proofs.Headings.{here_spot}
+use Rattle.reader.proofs.Places.{here_spot}
 
 from_start : (phase : Phase) (t : List ℕ) → item_here phase (item_start phase t) ≡ read_item phase t
 unfolding read_item

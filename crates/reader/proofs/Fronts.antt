@@ -1,25 +1,14 @@
 -- What the first byte tells of passing bytes and of reading a part.
-use Rattle.std.proofs.Common.{◌≡◌, ℕ, ◌<◌, Bool, true, false, List, [], ◌∷◌, length, get_or, drop, Some, None, MatchOption, sym, refl, ap, ◌∙◌, ⊎_elim, arith}
+use Rattle.std.proofs.Common.{◌≡◌, ℕ, ◌<◌, Bool, true, false, List, [], ◌∷◌, length, get_or, drop, Some, None, MatchOption, sym, refl, ◌∙◌, ⊎_elim}
 use Rattle.std.proofs.lemmas.Bool.{cond-true, cond-false, false≢true, cases_lt}
 use Rattle.std.proofs.lemmas.List.{at_drop_more, at_drop_all}
 use Rattle.rle.specs.Scans.{past}
 use Rattle.reader.specs.Left.{first_of}
 
-pub never : ◌≡◌ {A = ℕ} 0 1 → ⊥
-never z = omega arith
-
-pub first_some : (t : List ℕ) (b : ℕ) → first_of t ≡ Some b → t ≡ b ∷ drop 1 t
-first_some [] b e = let z : ◌≡◌ {A = ℕ} 0 1 = cc in absurd (never z)
-first_some (x ∷ xs) b e = let same : x ≡ b = cc in ap (λ y. y ∷ xs) same
-
-pub first_none : (t : List ℕ) → first_of t ≡ None → t ≡ []
-first_none [] e = refl
-first_none (x ∷ xs) e = let z : ◌≡◌ {A = ℕ} 0 1 = cc in absurd (never z)
-
 -- where a first byte is left, the text goes on there with it
 pub first_within : (t : List ℕ) (i b : ℕ) → first_of (drop i t) ≡ Some b → i < length t
 first_within t i b e =
-    ⊎_elim (λ h. h) (λ h. let z : None ≡ Some b = sym (at_drop_all first_of t i h) ∙ e in absurd (never (cc))) (cases_lt i (length t))
+    ⊎_elim (λ h. h) (λ h. let z : None ≡ Some b = sym (at_drop_all first_of t i h) ∙ e in cc) (cases_lt i (length t))
 
 pub first_at : (t : List ℕ) (i b : ℕ) → first_of (drop i t) ≡ Some b → get_or t i 0 ≡ b
 first_at t i b e = let same : Some (get_or t i 0) ≡ Some b = sym (at_drop_more first_of t i 0 (first_within t i b e)) ∙ e in cc

@@ -40,11 +40,3 @@ turn_fails steps i t rest cause h e = onto (λ _ z. in_turn (drop (i + 1) steps)
 pub turn_ends : (steps : List Step) (i : ℕ) (t : List ℕ) → length steps ≤ i → good tt t ≡ in_turn (drop i steps) t
 unfolding in_turn
 turn_ends steps i t h = sym (at_drop_all (λ ss. in_turn ss t) steps i h)
-
--- two readers of one text, by way of a third
-pub same_text : (old mid new : Reader) → new.text.now ≡ mid.text.now → mid.text.now ≡ old.text.now → new.text.now ≡ old.text.now
-same_text old mid new then first = then ∙ first
-
--- the rest of a part, read as its definition says, completes the whole
-pub onward : {A B : Type 0} (view : A → B) (scan whole : List ℕ → Scan B) (old mid new : Reader) (r : Result A ReadCause) → Scanned view scan mid new r → mid.text.now ≡ old.text.now → scan (left mid) ≡ whole (left old) → Scanned view whole old new r
-onward view scan whole old mid new r told same on = record { text = told.text ∙ same; told = told.told ∙ on }

@@ -1,10 +1,12 @@
 -- Lines and columns go on from byte to byte, and never pass the number of bytes.
-use Rattle.std.proofs.Common.{◌≡◌, ℕ, suc, ◌+◌, ◌<◌, ◌≤◌, eqb, List, [], ◌∷◌, ◌++◌, length, get_or, take, drop, sym, refl, ap, ◌∙◌, ⊎_elim, add-zero, arith, length-take}
+use Rattle.std.proofs.Common.{◌≡◌, ℕ, suc, ◌+◌, ◌-◌, ◌<◌, ◌≤◌, eqb, List, [], ◌∷◌, ◌++◌, length, get_or, take, drop, sym, refl, ap, ◌∙◌, ⊎_elim, add-zero, arith, length-take, length-drop}
 use Rattle.std.proofs.lemmas.List.{take_more, take-take, drop-take, take-append-drop, length-take-le}
 use Rattle.lines.specs.Lines.{line_length, first_line}
 use Rattle.lines.proofs.Ends.{line_within}
 use Rattle.std.proofs.lemmas.Bool.{cases_Bool, cond-true, cond-false, eq-eqb, ne_eqb}
-use Rattle.rle.specs.Spots.{Spot, corner, next_spot, spot_past, spot_at}
+use Rattle.rle.specs.Spots.{Spot, corner, next_spot, spot_past, spot_at, spot_before}
+use Rattle.reader.specs.declared.reader.Reader.{Reader}
+use Rattle.reader.specs.Left.{left}
 
 pub spot_append : (s : Spot) (xs ys : List ℕ) → spot_past s (xs ++ ys) ≡ spot_past (spot_past s xs) ys
 unfolding spot_past
@@ -70,3 +72,13 @@ spot_line t i = ap (spot_past corner) (take_add i (line_length (drop i t)) t) �
 
 pub length_line : (t : List ℕ) → length (first_line t) ≡ line_length t
 length_line t = length-take-le (line_length t) t (line_within t)
+
+-- a reader stands where the bytes that are left start
+here : (text : List ℕ) (r : Reader) → r.text.now ≡ text → spot_before text (left r) ≡ spot_at r.text.now r.at
+here text r same =
+    let place : length r.text.now - length (left r) ≡ r.at = omega (arith, length-drop r.at r.text.now, r.within) in
+    ap (λ t. spot_before t (left r)) (sym same) ∙ ap (spot_at r.text.now) place
+
+pub here_spot : (text : List ℕ) (r : Reader) → r.text.now ≡ text → record { line = r.line; column = r.column } ≡ spot_before text (left r)
+here_spot text r same =
+    ap (λ n. record { line = n; column = r.column }) (sym r.lined) ∙ ap (λ n. record { line = (spot_at r.text.now r.at).line; column = n }) (sym r.columned) ∙ sym (here text r same)

@@ -79,6 +79,7 @@ impl<'a> Reader<'a> {
     }
 
     // A heading, with its newline.
+    #[tactic(auto, unfolding(rle::specs::Items::heading))]
     pub(crate) fn heading(&mut self) -> Result<Heading<'a>, ReadCause>
         ensures { Headed heading (first_line (left self.old)) self.old self.new result }
     {

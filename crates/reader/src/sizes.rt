@@ -46,6 +46,7 @@ impl<'a> Reader<'a> {
     }
 
     // A width or a height; one that is too large is at fault where it starts.
+    #[tactic(auto, unfolding(rle::specs::Scans::size))]
     pub(crate) fn size(&mut self) -> Result<u32, ReadCause>
         ensures { Read size self.old self.new result }
     {

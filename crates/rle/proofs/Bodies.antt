@@ -15,7 +15,6 @@ use Rattle.rle.specs.Items.{Taken, run, ending, mark_of, laid, laid_run, marked_
 use Rattle.rle.specs.Runs.{letter_of, column_after, row_after, fitting}
 use Rattle.rle.specs.Scans.{Scan, good, bad, and_then, space, digit, numeral}
 use Rattle.rle.proofs.Numerals.{see_numeral, numeral_reads, spelt}
-use Rattle.rle.proofs.Pasts.{never}
 use Rattle.rle.proofs.Seen.{Seen, Same, seen_as, begins_with}
 
 -- where the next run is laid, if this one fits
@@ -169,7 +168,7 @@ still_run c b t u d r w e g =
     ap (body_item c) s.1 ∙ body_run c b s.0 e ∙ ap (λ x. and_then (counted x) (marked c x)) (sym s.1)
 
 by_mark : (c : Cursor) (b : ℕ) (t : List ℕ) (n : ℕ) (rest : List ℕ) → eqb b 33 ≡ false → Seen Same CountForm counted (b ∷ t) (good n rest) → (s : Scan Taken) → MarkView c (b ∷ t) n rest s → BodyView c (b ∷ t) s
-by_mark c b t n rest e h s short = faulty Ended [] (λ z. never (cc))
+by_mark c b t n rest e h s short = faulty Ended [] (λ z. cc)
 by_mark c b t n rest e h s (other d r f none) =
     let whole : b ∷ t ≡ h.0 ++ (d ∷ r) = h.2 ∙ ap (λ x. h.0 ++ x) f in
     misplaced h.0 d r whole n [] (subst (CountForm n) (sym (append-nil h.0)) h.1)
@@ -178,24 +177,24 @@ by_mark c b t n rest e h s (other d r f none) =
     still_run c b t h.0 d r w e whole
     ∙ ap (λ x. and_then x (marked c (h.0 ++ (d ∷ w)))) one.1
     ∙ ap (λ o. marked_by c (h.0 ++ (d ∷ w)) one.0 (d ∷ w) o w) none)
-by_mark c b t n rest e h s (leaves m) = faulty Outside (b ∷ t) (λ z. never (cc))
+by_mark c b t n rest e h s (leaves m) = faulty Outside (b ∷ t) (λ z. cc)
 by_mark c b t n rest e h s (lies m r f g) = ran_on n m h.0 r h.1 (h.2 ∙ ap (λ x. h.0 ++ x) f) g
 
 by_count : (c : Cursor) (b : ℕ) (t : List ℕ) → eqb b 33 ≡ false → (s : Scan ℕ) → Seen Same CountForm counted (b ∷ t) s → BodyView c (b ∷ t) (and_then s (marked c (b ∷ t)))
 by_count c b t e (good n rest) h = by_mark c b t n rest e h (marked c (b ∷ t) n rest) (mark_view c (b ∷ t) n rest)
-by_count c b t e (bad TooLong rest) h = faulty TooLong rest (λ z. never (cc))
+by_count c b t e (bad TooLong rest) h = faulty TooLong rest (λ z. cc)
 by_count c b t e (bad Byte rest) h =
     let P : List ℕ → Type 0 = λ x. BodyView c (b ∷ t) (bad Byte x) in
     let whole : b ∷ t ≡ h.0 ++ (h.1 ∷ h.2) = h.4 ∙ ap (λ x. h.0 ++ x) h.3 in
     subst P (sym h.3)
     (misplaced h.0 h.1 h.2 whole h.5.0 h.5.1 h.5.2
     (λ w. still_run c b t h.0 h.1 h.2 w e whole ∙ ap (λ x. and_then x (marked c (h.0 ++ (h.1 ∷ w)))) (h.6 w)))
-by_count c b t e (bad Size rest) h = faulty Size rest (λ z. never (cc))
-by_count c b t e (bad Outside rest) h = faulty Outside rest (λ z. never (cc))
-by_count c b t e (bad Ended rest) h = faulty Ended rest (λ z. never (cc))
+by_count c b t e (bad Size rest) h = faulty Size rest (λ z. cc)
+by_count c b t e (bad Outside rest) h = faulty Outside rest (λ z. cc)
+by_count c b t e (bad Ended rest) h = faulty Ended rest (λ z. cc)
 
 pub body_view : (c : Cursor) (t : List ℕ) → BodyView c t (body_item c t)
-body_view c [] = faulty Ended [] (λ z. never (cc))
+body_view c [] = faulty Ended [] (λ z. cc)
 body_view c (b ∷ t) =
     let P : Scan Taken → Type 0 = BodyView c (b ∷ t) in
     ⊎_elim

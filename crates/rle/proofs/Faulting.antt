@@ -20,7 +20,7 @@ use Rattle.rle.specs.Scans.{Scan, good, bad, past, space}
 use Rattle.rle.proofs.Bodies.{onward, fits, ran, body_reads, body_leaves, BodyView, over, ran_on, misplaced, faulty, body_view}
 use Rattle.rle.proofs.Openings.{took_remark, took_heading, OpenView, remarked, headed, open_view, remark_reads, head_reads}
 use Rattle.rle.proofs.Openings as opens
-use Rattle.rle.proofs.Pasts.{never, past_split, past_over, past_stays, past_stop}
+use Rattle.rle.proofs.Pasts.{past_split, past_over, past_stays, past_stop}
 use Rattle.rle.proofs.Reading.{read_body, read_opening, past_run, past_over_end, took_part, took_phase}
 
 -- what the first item of a body's form comes to: the end, or a run that is read where it fits and else lies outside
@@ -44,15 +44,15 @@ form_view c (r ∷ rs) t f =
 
 -- it is never a byte out of place, and the rest of a run that is read is of the form too
 no_byte : (c : Cursor) (runs : List Run) (at : List ℕ) (s : Scan Taken) → FormView c runs s → s ≡ bad Byte at → ⊥
-no_byte c runs at s (form_ends v) e = never (cc)
-no_byte c runs at s (form_runs n m rs v f) e = never (cc)
-no_byte c runs at s (form_leaves x) e = never (cc)
+no_byte c runs at s (form_ends v) e = cc
+no_byte c runs at s (form_runs n m rs v f) e = cc
+no_byte c runs at s (form_leaves x) e = cc
 
 rest_form : (c : Cursor) (runs : List Run) (n : ℕ) (m : Mark) (rest : List ℕ) (s : Scan Taken) → FormView c runs s → s ≡ good (ran c n m) rest → (rs : List Run) × BodyForm rs rest
 rest_form c runs n m rest s (form_ends v) e =
-    let same : ending ≡ run (record { count = n; mark = m }) = took_part (record { part = ending; phase = Body c }) (ran c n m) (33 ∷ v) rest e in never (cc)
+    let same : ending ≡ run (record { count = n; mark = m }) = took_part (record { part = ending; phase = Body c }) (ran c n m) (33 ∷ v) rest e in cc
 rest_form c runs n m rest s (form_runs k l rs v f) e = let same : v ≡ rest = cc in (rs, subst (BodyForm rs) same f)
-rest_form c runs n m rest s (form_leaves x) e = never (cc)
+rest_form c runs n m rest s (form_leaves x) e = cc
 
 -- the end is read again and again
 no_stop : {p : Phase} {t : List ℕ} {cause : ReadCause} {at : List ℕ} → Stops p t cause at → (c : Cursor) (v : List ℕ) → p ≡ Body c → past space t ≡ 33 ∷ v → ⊥
@@ -60,7 +60,7 @@ no_stop {t = t} {cause = cause} {at = at} (here e) c v is f =
     let read : body_item c (33 ∷ v) ≡ bad cause at = ap (body_item c) (sym f) ∙ sym (read_body c t) ∙ subst (λ x. read_item x t ≡ bad cause at) is e in
     let took : Taken = record { part = ending; phase = Body c } in
     let z : ◌≡◌ {A = Scan Taken} (good took (33 ∷ v)) (bad cause at) = read in
-    never (cc)
+    cc
 no_stop {t = t} (later x q rest e more) c v is f =
     let taken : Taken = record { part = x; phase = q } in
     let read : good (record { part = ending; phase = Body c }) (33 ∷ v) ≡ good taken rest = ap (body_item c) (sym f) ∙ sym (read_body c t) ∙ subst (λ y. read_item y t ≡ good taken rest) is e in
@@ -76,8 +76,8 @@ BodyFault t at =
 
 -- at the item that is read now
 misplaced_now : (c : Cursor) (t at : List ℕ) (s : Scan Taken) → BodyView c (past space t) s → s ≡ bad Byte at → BodyFault t at
-misplaced_now c t at s (over v e) f = never (cc)
-misplaced_now c t at s (ran_on n m u rest h e g) f = never (cc)
+misplaced_now c t at s (over v e) f = cc
+misplaced_now c t at s (ran_on n m u rest h e g) f = cc
 misplaced_now c t at s (misplaced u b r e n v h g) f =
     let split = past_split space t in
     let there : at ≡ b ∷ r = cc in
@@ -124,8 +124,8 @@ by_item c t at x q rest s (ran_on n m u v h e g) f more fault =
     let taken : Taken = record { part = x; phase = q } in
     let left : v ≡ rest = cc in
     misplaced_later c t at rest n m u h (e ∙ ap (λ y. u ++ (letter_of m ∷ y)) left) g (fault (onward c n m) (sym (took_phase (ran c n m) taken v rest f)))
-by_item c t at x q rest s (misplaced u b r e n v h g) f more fault = never (cc)
-by_item c t at x q rest s (faulty cause v h) f more fault = never (cc)
+by_item c t at x q rest s (misplaced u b r e n v h g) f more fault = cc
+by_item c t at x q rest s (faulty cause v h) f more fault = cc
 
 body_fault : {p : Phase} {t : List ℕ} {cause : ReadCause} {at : List ℕ} → Stops p t cause at → cause ≡ Byte → (c : Cursor) → p ≡ Body c → BodyFault t at
 body_fault {t = t} {cause = cause} {at = at} (here e) byte c is =
@@ -163,26 +163,26 @@ bare_view : (t : List ℕ) → BareForm t → TextView (opening_item t)
 bare_view t f = text_view f.0 f.1 f.2 f.3 f.4 t f.5
 
 never_byte : (at : List ℕ) (s : Scan Taken) → TextView s → s ≡ bad Byte at → ⊥
-never_byte at s (text_remark line rest f) e = never (cc)
-never_byte at s (text_heading line head runs body f) e = never (cc)
-never_byte at s (text_large x) e = never (cc)
+never_byte at s (text_remark line rest f) e = cc
+never_byte at s (text_heading line head runs body f) e = cc
+never_byte at s (text_large x) e = cc
 
 after_remark : (line rest : List ℕ) (s : Scan Taken) → TextView s → s ≡ good (took_remark line) rest → BareForm rest
 after_remark line rest s (text_remark l v f) e = let same : v ≡ rest = cc in subst BareForm same f
 after_remark line rest s (text_heading l head runs body f) e =
-    let same : header l head ≡ remark line = took_part (took_heading l head) (took_remark line) body rest e in never (cc)
-after_remark line rest s (text_large x) e = never (cc)
+    let same : header l head ≡ remark line = took_part (took_heading l head) (took_remark line) body rest e in cc
+after_remark line rest s (text_large x) e = cc
 
 after_heading : (line : List ℕ) (head : Head) (rest : List ℕ) (s : Scan Taken) → TextView s → s ≡ good (took_heading line head) rest → (runs : List Run) × BodyForm runs rest
 after_heading line head rest s (text_remark l v f) e =
-    let same : remark l ≡ header line head = took_part (took_remark l) (took_heading line head) v rest e in never (cc)
+    let same : remark l ≡ header line head = took_part (took_remark l) (took_heading line head) v rest e in cc
 after_heading line head rest s (text_heading l g runs body f) e = let same : body ≡ rest = cc in (runs, subst (BodyForm runs) same f)
-after_heading line head rest s (text_large x) e = never (cc)
+after_heading line head rest s (text_large x) e = cc
 
 -- a byte out of place in a remark or the heading
 first_now : (t at : List ℕ) (s : Scan Taken) → OpenView t s → s ≡ bad Byte at → FirstFault t at
-first_now t at s (remarked line rest h e) f = never (cc)
-first_now t at s (headed head line rest h e narrow low) f = never (cc)
+first_now t at s (remarked line rest h e) f = cc
+first_now t at s (headed head line rest h e narrow low) f = cc
 first_now t at s (opens.misplaced u b r e head v h g) f =
     let there : at ≡ b ∷ r = cc in
     let line = h.0 in
@@ -305,8 +305,8 @@ by_opening t at x q rest s (headed head line v h e narrow low) f more fault =
     let left : v ≡ rest = cc in
     let took = took_heading (first_line t) head in
     first_after_heading t at line rest head h (e ∙ ap (λ y. line ++ (10 ∷ y)) left) narrow low (body_fault more refl (top_left head.width head.height) (sym (took_phase took taken v rest f)))
-by_opening t at x q rest s (opens.misplaced u b r e head v h g) f more fault = never (cc)
-by_opening t at x q rest s (opens.faulty cause v h) f more fault = never (cc)
+by_opening t at x q rest s (opens.misplaced u b r e head v h g) f more fault = cc
+by_opening t at x q rest s (opens.faulty cause v h) f more fault = cc
 
 first_fault : {p : Phase} {t : List ℕ} {cause : ReadCause} {at : List ℕ} → Stops p t cause at → cause ≡ Byte → p ≡ Opening → FirstFault t at
 first_fault {t = t} {cause = cause} {at = at} (here e) byte is =

@@ -10,7 +10,7 @@ use Rattle.rle.specs.Items.{Head, before_width, before_height, before_rule, line
 use Rattle.rle.specs.Scans.{Scan, good, bad, and_then, past, digit, in_turn, size, judged}
 use Rattle.rle.proofs.Lines.{first_of, over_of, line_view, trimmed_split, trimmed_over, trimmed_twice, each_front, each_both, blanks_on_line, solid_line, solid_front}
 use Rattle.rle.proofs.Numerals.{NoDigit, numeral_solid, one_numeral, see_size, size_reads, size_small}
-use Rattle.rle.proofs.Pasts.{never, past_split, past_over, past_stop, past_first, past_end}
+use Rattle.rle.proofs.Pasts.{past_split, past_over, past_stop, past_first, past_end}
 use Rattle.rle.proofs.Seen.{Seen, Both, seen_then, seen_as, begins_with}
 use Rattle.rle.proofs.Turns.{Spelled, plain, spells_plain, see_turn, turn_reads, turn_past}
 
@@ -114,7 +114,7 @@ see_tail_ruled w h b t e =
 blank_no_comma : (b : ℕ) → blank b ≡ true → eqb b 44 ≡ false
 blank_no_comma b h =
     ⊎_elim
-    (λ e. let z : blank 44 ≡ true = subst (λ x. blank x ≡ true) (eqb-true b 44 e) h in never (cc))
+    (λ e. let z : blank 44 ≡ true = subst (λ x. blank x ≡ true) (eqb-true b 44 e) h in cc)
     (λ e. e)
     (cases_Bool (eqb b 44))
 
@@ -132,7 +132,7 @@ unruled_bad w h c v e = ap (λ x. and_then x (λ _ rest. good (nameless w h (c �
 -- the first byte after blanks is no comma where the text begins with none
 no_comma_past : (b : ℕ) (t bs : List ℕ) (c : ℕ) (cs : List ℕ) → eqb b 44 ≡ false → Each blank bs → b ∷ t ≡ bs ++ (c ∷ cs) → blank c ≡ false → (bs ≡ [] → ⊥) ⊎ (eqb c 44 ≡ false)
 no_comma_past b t [] c cs e h g s = let same : b ≡ c = cc in inr (subst (λ x. eqb x 44 ≡ false) same e)
-no_comma_past b t (d ∷ bs) c cs e h g s = inl (λ z. never (cc))
+no_comma_past b t (d ∷ bs) c cs e h g s = inl (λ z. cc)
 
 tail_stops : (w h : ℕ) (bs : List ℕ) (c : ℕ) (v : List ℕ) → Each blank bs → ((bs ≡ [] → ⊥) ⊎ (eqb c 44 ≡ false)) → blank c ≡ false → tailed w h (bs ++ (c ∷ v)) ≡ unruled w h (c ∷ v)
 tail_stops w h [] c v h₂ e s = ⊎_elim (λ z. absurd (z refl)) (λ z. tail_unruled w h c v z ∙ ap (unruled w h) (past_stop blank c v s)) e
@@ -326,7 +326,7 @@ heading_reads w h rule line v f =
 -- one part after another is read where both are
 pub then_good : {A B : Type 0} (s : Scan A) (k : A → List ℕ → Scan B) (b : B) (rest : List ℕ) → and_then s k ≡ good b rest → (a : A) × (v : List ℕ) × (s ≡ good a v) × (k a v ≡ good b rest)
 then_good (good a v) k b rest e = (a, v, refl, e)
-then_good (bad c v) k b rest e = never (cc)
+then_good (bad c v) k b rest e = cc
 
 tail_sizes : (w h : ℕ) (t : List ℕ) (head : Head) (rest : List ℕ) → tailed w h t ≡ good head rest → (head.width ≡ w) × (head.height ≡ h)
 tail_sizes w h t head rest e =

@@ -1,5 +1,6 @@
 -- The runs of a pattern lie in its box, and cover just its on cells.
 use Rattle.std.proofs.Common.{◌≡◌, ℕ, zero, suc, pred, ◌+◌, ◌-◌, ◌*◌, ◌/◌, ◌%◌, ◌<◌, ◌≤◌, Bool, true, false, cond, ◌&&◌, ◌||◌, eqb, ltb, leb, List, [], ◌∷◌, length, get_or, take, sym, refl, ap, ◌∙◌, subst, ⊎_elim, mul-le-mul_right, suc-mul, mul_comm, arith}
+use Rattle.std.proofs.Math.Bool.{and-false, and-true, or-false, or_assoc}
 use Rattle.std.proofs.lemmas.Nat.{div-mul-add, mod-mul-add, mul-add-lt}
 use Rattle.std.proofs.lemmas.List.{length-take, get_or-take}
 use Rattle.std.proofs.lemmas.Bool.{cases_Bool, cases_lt, cases_order, cond_both, and_from, le-leb, lt-leb, lt-ltb}
@@ -9,17 +10,16 @@ use Rattle.rle.specs.declared.mark.Mark.TheVariants.{Off, On, NextRow}
 use Rattle.rle.specs.declared.mark.Run.{Run}
 use Rattle.rle.specs.Marks.{cell_mark, step_down, marks_from, pattern_marks, same_mark, join_mark, grouped}
 use Rattle.rle.specs.Runs.{is_on, column_after, row_after, fitting, Inside, covers}
-use Rattle.rle.proofs.Pasts.{never}
 
 same_is : (m k : Mark) → same_mark m k ≡ true → m ≡ k
 same_is Off Off e = refl
-same_is Off On e = never (cc)
-same_is Off NextRow e = never (cc)
-same_is On Off e = never (cc)
+same_is Off On e = cc
+same_is Off NextRow e = cc
+same_is On Off e = cc
 same_is On On e = refl
-same_is On NextRow e = never (cc)
-same_is NextRow Off e = never (cc)
-same_is NextRow On e = never (cc)
+same_is On NextRow e = cc
+same_is NextRow Off e = cc
+same_is NextRow On e = cc
 same_is NextRow NextRow e = refl
 
 -- a run of one mark more is that mark, and the run from where it leads
@@ -60,10 +60,6 @@ covers_more : (x y : ℕ) (m : Mark) (n : ℕ) (column row : ℕ) → (is_on m &
 covers_more x y Off n column row = refl
 covers_more x y On n column row = grind (arith, nat_tests)
 covers_more x y NextRow n column row = refl
-
-or_assoc : (a b c : Bool) → ((a || b) || c) ≡ (a || (b || c))
-or_assoc true b c = refl
-or_assoc false b c = refl
 
 join_covered : (x y : ℕ) (m : Mark) (r : Run) (rs : List Run) (column row : ℕ) → m ≡ r.mark → covers x y (record { count = suc r.count; mark = m } ∷ rs) column row ≡ (here m x y column row || covers (column_after m x 1) (row_after m y 1) (r ∷ rs) column row)
 join_covered x y m r rs column row e =
@@ -162,20 +158,8 @@ marks_inside w h x y (suc k) (b ∷ bs) one e f =
 abbrev laid : ℕ → List Bool → ℕ → Bool
 laid from bs at = leb from at && get_or bs (at - from) false
 
-and_none : (b : Bool) → (b && false) ≡ false
-and_none true = refl
-and_none false = refl
-
-all_of : (b : Bool) → (b && true) ≡ b
-all_of true = refl
-all_of false = refl
-
-or_none : (b : Bool) → (b || false) ≡ b
-or_none true = refl
-or_none false = refl
-
 no_cells : (from at : ℕ) → laid from [] at ≡ false
-no_cells from at = and_none (leb from at)
+no_cells from at = and-false (leb from at)
 
 -- a cell lies at one place only
 place_of : (w x y column row : ℕ) → x < w → column < w → y * w + x ≡ row * w + column → (row ≡ y) × (column ≡ x)
@@ -211,18 +195,18 @@ cell_laid w x y column row b bs f g =
     let none : at - from ≡ 0 = omega arith in
     ap (λ z. (b && z) || laid (from + 1) bs at) (lies_here x y column row p.0 p.1)
     ∙ ap (λ z. (b && true) || (z && get_or bs (at - (from + 1)) false)) (lt-leb (from + 1) at (omega arith))
-    ∙ or_none (b && true)
-    ∙ all_of b
+    ∙ or-false (b && true)
+    ∙ and-true b
     ∙ sym (ap (λ z. z && get_or (b ∷ bs) (at - from) false) (le-leb from at (omega arith)) ∙ ap (λ z. get_or (b ∷ bs) z false) none))
     (⊎_elim
     (λ l.
     ap (λ z. (b && z) || laid (from + 1) bs at) (lies_not w x y column row (λ e. omega arith))
-    ∙ ap (λ z. z || laid (from + 1) bs at) (and_none b)
+    ∙ ap (λ z. z || laid (from + 1) bs at) (and-false b)
     ∙ ap (λ z. z && get_or bs (at - (from + 1)) false) (le-leb (from + 1) at (omega arith))
     ∙ sym (ap (λ z. z && get_or (b ∷ bs) (at - from) false) (le-leb from at (omega arith)) ∙ further b bs from at l))
     (λ l.
     ap (λ z. (b && z) || laid (from + 1) bs at) (lies_not w x y column row (λ e. omega arith))
-    ∙ ap (λ z. z || laid (from + 1) bs at) (and_none b)
+    ∙ ap (λ z. z || laid (from + 1) bs at) (and-false b)
     ∙ ap (λ z. z && get_or bs (at - (from + 1)) false) (lt-leb (from + 1) at (omega arith))
     ∙ sym (ap (λ z. z && get_or (b ∷ bs) (at - from) false) (lt-leb from at (omega arith)))))
     (cases_order from at)

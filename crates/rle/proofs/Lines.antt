@@ -1,12 +1,13 @@
 -- Lines: where they end, and what is left of one without the blanks at its end.
 use Rattle.std.proofs.Common.{◌≡◌, ℕ, suc, Bool, true, false, eqb, ◌⊎◌, List, [], ◌∷◌, ◌++◌, length, take, drop, sym, refl, ap, ◌∙◌, subst, inl, inr, ⊎_elim}
+use Rattle.std.proofs.Math.Seq.{take-append_seam, drop-append_seam}
 use Rattle.std.proofs.lemmas.Bool.{cases_Bool, cond-true, cond-false, eqb-true, not_from_false, not-true}
 use Rattle.lines.specs.Lines.{blank, line_length, first_line, kept_before, trimmed}
 use Rattle.rle.specs.declared.fault.ReadCause.TheVariants.{Ended}
 use Rattle.rle.specs.Forms.{Each, on_line}
 use Rattle.rle.specs.Scans.{good, bad, this_byte, past}
 use Rattle.rle.specs.Items.{line_over}
-use Rattle.rle.proofs.Pasts.{never, past_first, past_stop}
+use Rattle.rle.proofs.Pasts.{past_first, past_stop}
 
 line_on : (b : ℕ) (t : List ℕ) → eqb b 10 ≡ false → line_length (b ∷ t) ≡ suc (line_length t)
 unfolding line_length
@@ -21,19 +22,11 @@ pub line_of : (l v : List ℕ) → Each on_line l → line_length (l ++ (10 ∷ 
 line_of [] v h = line_stop 10 v refl
 line_of (b ∷ l) v h = line_on b (l ++ (10 ∷ v)) (not-true (eqb b 10) h.0) ∙ ap suc (line_of l v h.1)
 
-take_front : (l v : List ℕ) → take (length l) (l ++ v) ≡ l
-take_front [] v = refl
-take_front (b ∷ l) v = ap (λ x. b ∷ x) (take_front l v)
-
-drop_front : (l v : List ℕ) → drop (length l) (l ++ v) ≡ v
-drop_front [] v = refl
-drop_front (b ∷ l) v = drop_front l v
-
 pub first_of : (l v : List ℕ) → Each on_line l → first_line (l ++ (10 ∷ v)) ≡ l
-first_of l v h = ap (λ n. take n (l ++ (10 ∷ v))) (line_of l v h) ∙ take_front l (10 ∷ v)
+first_of l v h = ap (λ n. take n (l ++ (10 ∷ v))) (line_of l v h) ∙ take-append_seam l (10 ∷ v)
 
 pub over_of : (l v : List ℕ) → Each on_line l → line_over (l ++ (10 ∷ v)) ≡ good tt v
-over_of l v h = ap (λ n. this_byte 10 (drop n (l ++ (10 ∷ v)))) (line_of l v h) ∙ ap (this_byte 10) (drop_front l (10 ∷ v))
+over_of l v h = ap (λ n. this_byte 10 (drop n (l ++ (10 ∷ v)))) (line_of l v h) ∙ ap (this_byte 10) (drop-append_seam l (10 ∷ v))
 
 -- the first line has no newline, and a newline or nothing follows it
 pub line_view : (t : List ℕ) → Each on_line (first_line t) × ((line_over t ≡ bad Ended []) ⊎ ((r : List ℕ) × (line_over t ≡ good tt r) × (t ≡ first_line t ++ (10 ∷ r))))
@@ -91,7 +84,7 @@ each_both test (b ∷ l) v h g = (h.0, each_both test l v h.1 g)
 newline_no_blank : (b : ℕ) → blank b ≡ true → on_line b ≡ true
 newline_no_blank b h =
     ⊎_elim
-    (λ e. let z : blank 10 ≡ true = subst (λ x. blank x ≡ true) (eqb-true b 10 e) h in never (cc))
+    (λ e. let z : blank 10 ≡ true = subst (λ x. blank x ≡ true) (eqb-true b 10 e) h in cc)
     (λ e. not_from_false (eqb b 10) e)
     (cases_Bool (eqb b 10))
 

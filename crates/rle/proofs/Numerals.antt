@@ -8,7 +8,7 @@ use Rattle.lines.specs.Lines.{blank}
 use Rattle.rle.specs.declared.fault.ReadCause.TheVariants.{TooLong, Byte, Size, Outside, Ended}
 use Rattle.rle.specs.Forms.{Each, Numeral}
 use Rattle.rle.specs.Scans.{Scan, good, bad, and_then, past, digit, digits_on, numeral, judged, size}
-use Rattle.rle.proofs.Pasts.{never, past_stop}
+use Rattle.rle.proofs.Pasts.{past_stop}
 use Rattle.rle.proofs.Seen.{Seen, Same}
 
 -- one digit more at a number's end
@@ -41,19 +41,19 @@ one_less (suc (suc (suc k))) n d few h small = absurd (omega arith)
 abbrev Longer : ℕ → ℕ → List ℕ → Type 0
 Longer n m u = (decimal m ≡ decimal n ++ u) × (1 ≤ m) × (m ≤ 9999)
 
-digit_parts : (b : ℕ) → digit b ≡ true → (48 ≤ b) × (b ≤ 57)
+pub digit_parts : (b : ℕ) → digit b ≡ true → (48 ≤ b) × (b ≤ 57)
 digit_parts b e = let p = and_parts (leb 48 b) (leb b 57) e in (leb-true 48 b p.0, leb-true b 57 p.1)
 
-digits_on_step : (m n b : ℕ) (t : List ℕ) → digit b ≡ true → digits_on (suc m) n (b ∷ t) ≡ digits_on m (n * 10 + (b - 48)) t
+pub digits_on_step : (m n b : ℕ) (t : List ℕ) → digit b ≡ true → digits_on (suc m) n (b ∷ t) ≡ digits_on m (n * 10 + (b - 48)) t
 unfolding digits_on
 digits_on_step m n b t e = cond-true (digit b) _ _ e
 
-digits_stop : (m n b : ℕ) (t : List ℕ) → digit b ≡ false → digits_on m n (b ∷ t) ≡ good n (b ∷ t)
+pub digits_stop : (m n b : ℕ) (t : List ℕ) → digit b ≡ false → digits_on m n (b ∷ t) ≡ good n (b ∷ t)
 unfolding digits_on
 digits_stop zero n b t e = cond-false (digit b) _ _ e
 digits_stop (suc m) n b t e = cond-false (digit b) _ _ e
 
-digits_full : (n b : ℕ) (t : List ℕ) → digit b ≡ true → digits_on 0 n (b ∷ t) ≡ bad Byte (b ∷ t)
+pub digits_full : (n b : ℕ) (t : List ℕ) → digit b ≡ true → digits_on 0 n (b ∷ t) ≡ bad Byte (b ∷ t)
 unfolding digits_on
 digits_full n b t e = cond-true (digit b) _ _ e
 
@@ -95,8 +95,8 @@ one_more m n b t some few e (bad Ended rest) h = tt
 
 see_digits : (m n : ℕ) (t : List ℕ) → m ≤ 3 → 1 ≤ n → n ≤ most m → Seen Same (Longer n) (digits_on m n) t (digits_on m n t)
 unfolding digits_on
-see_digits zero n [] few some small = ([], (sym (append-nil (decimal n)), some, small), refl, λ c r v f. never (cc))
-see_digits (suc m) n [] few some small = ([], (sym (append-nil (decimal n)), some, within_four (suc m) n small), refl, λ c r v f. never (cc))
+see_digits zero n [] few some small = ([], (sym (append-nil (decimal n)), some, small), refl, λ c r v f. cc)
+see_digits (suc m) n [] few some small = ([], (sym (append-nil (decimal n)), some, within_four (suc m) n small), refl, λ c r v f. cc)
 see_digits zero n (b ∷ t) few some small =
     let P : Scan ℕ → Type 0 = Seen Same (Longer n) (digits_on 0 n) (b ∷ t) in
     ⊎_elim
@@ -120,7 +120,7 @@ leading b = leb 49 b && leb b 57
 leading_parts : (b : ℕ) → leading b ≡ true → (49 ≤ b) × (b ≤ 57)
 leading_parts b e = let p = and_parts (leb 49 b) (leb b 57) e in (leb-true 49 b p.0, leb-true b 57 p.1)
 
-numeral_starts : (b : ℕ) (t : List ℕ) → leading b ≡ true → numeral (b ∷ t) ≡ digits_on 3 (b - 48) t
+pub numeral_starts : (b : ℕ) (t : List ℕ) → leading b ≡ true → numeral (b ∷ t) ≡ digits_on 3 (b - 48) t
 unfolding numeral
 numeral_starts b t e = cond-true (leading b) _ _ e
 
@@ -168,7 +168,7 @@ see_numeral (b ∷ t) =
     (λ e. subst P (sym (numeral_none b t e)) ([], b, t, refl, refl, (1, 49 ∷ [], one_numeral), λ v. numeral_none b v e))
     (cases_Bool (leading b))
 
-size_judged : (n : ℕ) (start rest : List ℕ) → n ≤ 32 → judged start n rest ≡ good n rest
+pub size_judged : (n : ℕ) (start rest : List ℕ) → n ≤ 32 → judged start n rest ≡ good n rest
 size_judged n start rest h = cond-true (leb n 32) _ _ (le-leb n 32 h)
 
 judge : (t : List ℕ) (r : Scan ℕ) → Seen Same Numeral numeral t r → Seen Same Numeral size t (and_then r (judged t))
@@ -204,9 +204,9 @@ small : (t : List ℕ) (r : Scan ℕ) (n : ℕ) (rest : List ℕ) → and_then r
 small t (good m v) n rest e =
     ⊎_elim
     (λ h. let same : good m v ≡ good n rest = sym (cond-true (leb m 32) (good m v) (bad Size t) h) ∙ e in let one : m ≡ n = cc in subst (λ x. x ≤ 32) one (leb-true m 32 h))
-    (λ h. let other : bad Size t ≡ good n rest = sym (cond-false (leb m 32) (good m v) (bad Size t) h) ∙ e in never (cc))
+    (λ h. let other : bad Size t ≡ good n rest = sym (cond-false (leb m 32) (good m v) (bad Size t) h) ∙ e in cc)
     (cases_Bool (leb m 32))
-small t (bad c v) n rest e = never (cc)
+small t (bad c v) n rest e = cc
 
 pub size_small : (t : List ℕ) (n : ℕ) (rest : List ℕ) → size t ≡ good n rest → n ≤ 32
 unfolding size

@@ -11,7 +11,6 @@ use Rattle.rle.specs.Items.{Head, Taken, remark, header, top_left, line_over, he
 use Rattle.rle.specs.Scans.{Scan, good, bad, and_then}
 use Rattle.rle.proofs.Headings.{Alike, Headed, see_heading, heading_reads, heading_small}
 use Rattle.rle.proofs.Lines.{first_of, over_of, line_view, first_cons}
-use Rattle.rle.proofs.Pasts.{never}
 use Rattle.rle.proofs.Seen.{Seen, begins_with}
 
 abbrev pub took_remark : List ℕ → Taken
@@ -48,7 +47,7 @@ view_remark b t e =
     let P : Scan Taken → Type 0 = OpenView (b ∷ t) in
     let view = line_view (b ∷ t) in
     ⊎_elim
-    (λ f. subst P (sym (ap (λ x. and_then x (λ _ v. good (took_remark (first_line (b ∷ t))) v)) f)) (faulty Ended [] (λ z. never (cc))))
+    (λ f. subst P (sym (ap (λ x. and_then x (λ _ v. good (took_remark (first_line (b ∷ t))) v)) f)) (faulty Ended [] (λ z. cc)))
     (λ f. subst P (sym (remark_good (b ∷ t) f.0 f.1)) (remarked (first_line (b ∷ t)) f.0 (remark_line b t e view.0) f.2))
     view.1
 
@@ -60,7 +59,7 @@ view_heading b t e (good head rest) f h =
     let small = heading_small (b ∷ t) head rest f in
     let line = h.1.0 in
     headed head line rest h.1.1 (h.2 ∙ ap (λ x. x ++ rest) h.1.2 ∙ append_assoc line (10 ∷ []) rest) small.0 small.1
-view_heading b t e (bad TooLong rest) f h = faulty TooLong rest (λ z. never (cc))
+view_heading b t e (bad TooLong rest) f h = faulty TooLong rest (λ z. cc)
 view_heading b t e (bad Byte rest) f h =
     let P : List ℕ → Type 0 = λ x. OpenView (b ∷ t) (bad Byte x) in
     let whole : b ∷ t ≡ h.0 ++ (h.1 ∷ h.2) = h.4 ∙ ap (λ x. h.0 ++ x) h.3 in
@@ -69,12 +68,12 @@ view_heading b t e (bad Byte rest) f h =
     (λ w.
     let s = begins_with b t h.0 h.1 h.2 w whole in
     ap opening_item s.1 ∙ opens_heading b s.0 e ∙ ap heading_item (sym s.1) ∙ ap (took_of (h.0 ++ (h.1 ∷ w))) (h.6 w)))
-view_heading b t e (bad Size rest) f h = faulty Size rest (λ z. never (cc))
-view_heading b t e (bad Outside rest) f h = faulty Outside rest (λ z. never (cc))
-view_heading b t e (bad Ended rest) f h = faulty Ended rest (λ z. never (cc))
+view_heading b t e (bad Size rest) f h = faulty Size rest (λ z. cc)
+view_heading b t e (bad Outside rest) f h = faulty Outside rest (λ z. cc)
+view_heading b t e (bad Ended rest) f h = faulty Ended rest (λ z. cc)
 
 pub open_view : (t : List ℕ) → OpenView t (opening_item t)
-open_view [] = faulty Ended [] (λ z. never (cc))
+open_view [] = faulty Ended [] (λ z. cc)
 open_view (b ∷ t) =
     let P : Scan Taken → Type 0 = OpenView (b ∷ t) in
     ⊎_elim

@@ -1,12 +1,9 @@
 -- What is passed at the front of a text, and what is left.
-use Rattle.std.proofs.Common.{◌≡◌, ℕ, Bool, true, false, List, [], ◌∷◌, ◌++◌, sym, refl, ap, ◌∙◌, ⊎_elim, arith}
+use Rattle.std.proofs.Common.{◌≡◌, ℕ, Bool, true, false, List, [], ◌∷◌, ◌++◌, sym, refl, ap, ◌∙◌, ⊎_elim}
 use Rattle.std.proofs.lemmas.Bool.{cases_Bool, cond-true, cond-false}
 use Rattle.lines.specs.Lines.{blank}
 use Rattle.rle.specs.Forms.{Each, Gap}
 use Rattle.rle.specs.Scans.{past, gap}
-
-pub never : {A : Type 0} → ◌≡◌ {A = ℕ} 0 1 → A
-never e = absurd (omega arith)
 
 -- a byte that passes is passed, and one that does not stays
 pub past_on : (test : ℕ → Bool) (b : ℕ) (t : List ℕ) → test b ≡ true → past test (b ∷ t) ≡ past test t
@@ -38,7 +35,7 @@ past_split test (b ∷ t) =
 -- what is left begins with a byte that does not pass
 pub past_first : (test : ℕ → Bool) (t : List ℕ) (b : ℕ) (r : List ℕ) → past test t ≡ b ∷ r → test b ≡ false
 unfolding past
-past_first test [] b r e = never (cc)
+past_first test [] b r e = cc
 past_first test (c ∷ t) b r e =
     ⊎_elim
     (λ h. past_first test t b r (sym (past_on test c t h) ∙ e))

@@ -16,7 +16,7 @@ use Rattle.rle.specs.Scans.{Scan, good, past, space}
 use Rattle.rle.proofs.Bodies.{onward, fits, ran, run_reads, body_reads, BodyView, over, ran_on, misplaced, faulty, body_view}
 use Rattle.rle.proofs.Openings.{took_remark, took_heading, OpenView, remarked, headed, open_view, remark_reads, head_reads}
 use Rattle.rle.proofs.Openings as opens
-use Rattle.rle.proofs.Pasts.{never, past_split, past_over, past_stop}
+use Rattle.rle.proofs.Pasts.{past_split, past_over, past_stop}
 
 -- what is read in each phase
 pub read_body : (c : Cursor) (t : List ℕ) → read_item (Body c) t ≡ body_item c (past space t)
@@ -45,7 +45,7 @@ body_every (r ∷ rs) c t f h =
     (read_body c t
     ∙ ap (body_item c) (ap (past space) f.6 ∙ past_run r.count r.mark f.0 f.1 f.2 f.3 f.4)
     ∙ body_reads c r.count f.1 r.mark f.2 f.4 h.0)
-    (λ z. never (cc))
+    (λ z. cc)
     (body_every rs (onward c r.count r.mark) f.2 f.5 h.1)
 
 -- a heading and its body
@@ -58,7 +58,7 @@ head_every w h rule runs line body f g narrow low inside =
     let first = first_line t in
     let at : Inside head.width head.height 0 0 runs = subst (λ x. Inside x head.height 0 0 runs) (sym p.4) (subst (λ x. Inside w x 0 0 runs) (sym p.5) inside) in (
       header first head ∷ run_items runs,
-      goes (Body (top_left head.width head.height)) body (read_opening t ∙ p.3) (λ z. never (cc)) (body_every runs (top_left head.width head.height) body g at),
+      goes (Body (top_left head.width head.height)) body (read_opening t ∙ p.3) (λ z. cc) (body_every runs (top_left head.width head.height) body g at),
       record { line = first; head = head; width = p.4; height = p.5; named = p.6; items_are = refl },
     ))
     (λ p. absurd (p.2 narrow low))
@@ -73,7 +73,7 @@ text_every (r ∷ remarks) w h rule runs line body rs f g narrow low inside =
     let more = text_every remarks w h rule runs line body rs.1 f g narrow low inside in
     let given = more.2 in (
       remark r ∷ more.0,
-      goes Opening rest (read_opening _ ∙ ap opening_item whole ∙ remark_reads r rest rs.0) (λ z. never (cc)) more.1,
+      goes Opening rest (read_opening _ ∙ ap opening_item whole ∙ remark_reads r rest rs.0) (λ z. cc) more.1,
       record { line = given.line; head = given.head; width = given.width; height = given.height; named = given.named; items_are = ap (λ x. remark r ∷ x) given.items_are },
     )
 
@@ -96,9 +96,9 @@ took_phase a b v w e = let same : a ≡ b = cc in ap (λ y. y.phase) same
 -- an item of the body that is the end, or another
 is_over : (c : Cursor) (t : List ℕ) (q : Phase) (rest : List ℕ) (s : Scan Taken) → BodyView c t s → s ≡ good (record { part = ending; phase = q }) rest → (v : List ℕ) × (t ≡ 33 ∷ v)
 is_over c t q rest s (over v e) f = (v, e)
-is_over c t q rest s (ran_on n m u v h e g) f = let same : run (record { count = n; mark = m }) ≡ ending = took_part (ran c n m) (record { part = ending; phase = q }) v rest f in never (cc)
-is_over c t q rest s (misplaced u b r e n v h g) f = never (cc)
-is_over c t q rest s (faulty cause v h) f = never (cc)
+is_over c t q rest s (ran_on n m u v h e g) f = let same : run (record { count = n; mark = m }) ≡ ending = took_part (ran c n m) (record { part = ending; phase = q }) v rest f in cc
+is_over c t q rest s (misplaced u b r e n v h g) f = cc
+is_over c t q rest s (faulty cause v h) f = cc
 
 abbrev RanOn : Cursor → List ℕ → Part → Phase → List ℕ → Type 0
 RanOn c t x q rest = (n : ℕ) × (m : Mark) × (u : List ℕ) × CountForm n u × (t ≡ u ++ (letter_of m ∷ rest)) × (fits c n m ≡ true) × (x ≡ run (record { count = n; mark = m })) × (q ≡ Body (onward c n m))
@@ -109,8 +109,8 @@ is_run c t x q rest s (ran_on n m u v h e g) f other =
     let left : v ≡ rest = cc in
     let taken : Taken = record { part = x; phase = q } in
     (n, m, u, h, e ∙ ap (λ y. u ++ (letter_of m ∷ y)) left, g, sym (took_part (ran c n m) taken v rest f), sym (took_phase (ran c n m) taken v rest f))
-is_run c t x q rest s (misplaced u b r e n v h g) f other = never (cc)
-is_run c t x q rest s (faulty cause v h) f other = never (cc)
+is_run c t x q rest s (misplaced u b r e n v h g) f other = cc
+is_run c t x q rest s (faulty cause v h) f other = cc
 
 -- a body that is read to its end is one of runs that lie in the box
 body_only : {p : Phase} {t : List ℕ} {xs : List Part} → Finishes p t xs → (c : Cursor) → p ≡ Body c → (runs : List Run) × BodyForm runs t × Inside c.width c.height c.column c.row runs × (xs ≡ run_items runs)
@@ -146,15 +146,15 @@ is_opened t x q rest s (headed head line v h e narrow low) f =
     let taken : Taken = record { part = x; phase = q } in
     let took = took_heading (first_line t) head in
     inr (head, line, h, e ∙ ap (λ y. line ++ (10 ∷ y)) left, narrow, low, sym (took_part took taken v rest f), sym (took_phase took taken v rest f))
-is_opened t x q rest s (opens.misplaced u b r e head v h g) f = never (cc)
-is_opened t x q rest s (opens.faulty cause v h) f = never (cc)
+is_opened t x q rest s (opens.misplaced u b r e head v h g) f = cc
+is_opened t x q rest s (opens.faulty cause v h) f = cc
 
 abbrev Only : List ℕ → List Part → Type 0
 Only t xs = (remarks : List (List ℕ)) × (w : ℕ) × (h : ℕ) × (rule : Option (List ℕ)) × (runs : List Run) × Readable remarks w h rule runs t × Given remarks w h rule runs xs
 
 no_end : (t : List ℕ) (q : Phase) (rest : List ℕ) → Opened t ending q rest → ⊥
-no_end t q rest (inl p) = never (cc)
-no_end t q rest (inr p) = never (cc)
+no_end t q rest (inl p) = cc
+no_end t q rest (inr p) = cc
 
 with_remark : (line t rest : List ℕ) (xs : List Part) → RemarkForm line → t ≡ line ++ (10 ∷ rest) → Only rest xs → Only t (remark line ∷ xs)
 with_remark line t rest xs h e o =

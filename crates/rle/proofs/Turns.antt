@@ -7,7 +7,7 @@ use Rattle.rle.specs.declared.fault.ReadCause.TheVariants.{TooLong, Byte, Size, 
 use Rattle.rle.specs.declared.phase.Step.{Step}
 use Rattle.rle.specs.Forms.{Gap, Spells}
 use Rattle.rle.specs.Scans.{Scan, good, bad, and_then, past, gap, byte_of, is_loose, in_turn}
-use Rattle.rle.proofs.Pasts.{never, gap_split, gap_stays, past_over, past_stop, past_past}
+use Rattle.rle.proofs.Pasts.{gap_split, gap_stays, past_over, past_stop, past_past}
 use Rattle.rle.proofs.Seen.{Seen, Same}
 
 -- the bytes of some steps without any blanks
@@ -127,16 +127,16 @@ past_by s b t rest true e l h =
     let here : good tt (gap (is_loose s) t) ≡ good tt rest = sym (this_is s [] b t e) ∙ h in
     let same : past blank t ≡ rest = sym (ap (λ y. gap y t) l) ∙ (cc) in
     subst (λ y. past blank y ≡ y) same (past_past blank t)
-past_by s b t rest false e l h = let z : bad Byte (b ∷ t) ≡ good tt rest = sym (this_isnt s [] b t e) ∙ h in never (cc)
+past_by s b t rest false e l h = let z : bad Byte (b ∷ t) ≡ good tt rest = sym (this_isnt s [] b t e) ∙ h in cc
 
 other_steps : (s z : Step) (ss : List Step) (b : ℕ) (t rest : List ℕ) (x : Bool) → eqb b (byte_of s) ≡ x → in_turn (s ∷ z ∷ ss) (b ∷ t) ≡ good tt rest → in_turn (z ∷ ss) (gap (is_loose s) t) ≡ good tt rest
 other_steps s z ss b t rest true e h = sym (this_is s (z ∷ ss) b t e) ∙ h
-other_steps s z ss b t rest false e h = let w : bad Byte (b ∷ t) ≡ good tt rest = sym (this_isnt s (z ∷ ss) b t e) ∙ h in never (cc)
+other_steps s z ss b t rest false e h = let w : bad Byte (b ∷ t) ≡ good tt rest = sym (this_isnt s (z ∷ ss) b t e) ∙ h in cc
 
 pub turn_past : (ss : List Step) → EndsLoose ss → (t rest : List ℕ) → in_turn ss t ≡ good tt rest → past blank rest ≡ rest
 unfolding in_turn
 turn_past [] l t rest h = absurd l
-turn_past (s ∷ []) l [] rest h = never (cc)
+turn_past (s ∷ []) l [] rest h = cc
 turn_past (s ∷ []) l (b ∷ t) rest h = past_by s b t rest (eqb b (byte_of s)) refl l h
-turn_past (s ∷ z ∷ ss) l [] rest h = never (cc)
+turn_past (s ∷ z ∷ ss) l [] rest h = cc
 turn_past (s ∷ z ∷ ss) l (b ∷ t) rest h = turn_past (z ∷ ss) l (gap (is_loose s) t) rest (other_steps s z ss b t rest (eqb b (byte_of s)) refl h)

@@ -18,6 +18,7 @@ use Rattle.rle.specs.Runs.{letter_of}
 use Rattle.rle.specs.Scans.{past, space}
 use Rattle.rle.specs.Texts.{count_text, run_text, body_text, heading_text, pattern_text}
 use Rattle.rle.proofs.Laying.{pattern_inside, pattern_covers}
+use Rattle.rle.proofs.Lines.{each_both}
 use Rattle.rle.proofs.Pasts.{past_stop, past_end}
 use Rattle.rle.proofs.Reading.{reads_every}
 
@@ -34,10 +35,6 @@ solid_no_blank b e = grind (arith, nat_tests)
 each_so : (p q : ℕ → Bool) → ((b : ℕ) → p b ≡ true → q b ≡ true) → (bs : List ℕ) → Each p bs → Each q bs
 each_so p q f [] h = tt
 each_so p q f (b ∷ bs) h = (f b h.0, each_so p q f bs h.1)
-
-each_append : (p : ℕ → Bool) (bs cs : List ℕ) → Each p bs → Each p cs → Each p (bs ++ cs)
-each_append p [] cs h g = g
-each_append p (b ∷ bs) cs h g = (h.0, each_append p bs cs h.1 g)
 
 solid_past : (bs : List ℕ) → Each solid bs → past blank bs ≡ bs
 solid_past [] h = past_end blank
@@ -64,7 +61,7 @@ digits_solid set [] h = (tt, omega arith)
 digits_solid set (d ∷ ds) h =
     let one = digit_solid set d h.0 in
     let more = digits_solid set ds h.1 in
-    (each_append solid (digit_in set d) (flat_map (digit_in set) ds) one.0 more.0, omega (arith, length-append (digit_in set d) (flat_map (digit_in set) ds), one.1, more.1))
+    (each_both solid (digit_in set d) (flat_map (digit_in set) ds) one.0 more.0, omega (arith, length-append (digit_in set d) (flat_map (digit_in set) ds), one.1, more.1))
 
 below_nine : (set : ℕ) → Each solid (digits_below 9 set) × (length (digits_below 9 set) ≤ 9)
 unfolding digits_below
@@ -75,7 +72,7 @@ unfolding written
 written_solid births survivals =
     let one = below_nine births in
     let two = below_nine survivals in (
-      (refl, each_append solid (digits_below 9 births) (47 ∷ 83 ∷ digits_below 9 survivals) one.0 (refl, (refl, two.0))),
+      (refl, each_both solid (digits_below 9 births) (47 ∷ 83 ∷ digits_below 9 survivals) one.0 (refl, (refl, two.0))),
       omega (arith, length-append (digits_below 9 births) (47 ∷ 83 ∷ digits_below 9 survivals), one.1, two.1),
     )
 

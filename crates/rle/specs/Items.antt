@@ -1,5 +1,5 @@
 -- The items of a text, one by one: remarks, the heading, runs and the end.
-use Rattle.std.specs.Prelude.{◌≡◌, ℕ, true, false, cond, List, [], ◌∷◌, drop, Some, None, Option, ◌==◌, ◌≢◌}
+use Rattle.std.specs.Prelude.{◌≡◌, ℕ, cond, List, [], ◌∷◌, drop, Some, None, Option, ◌==◌, ◌≢◌}
 use Rattle.lines.specs.Lines.{blank, line_length, first_line, trimmed}
 use Rattle.rle.specs.declared.fault.ReadCause.{ReadCause}
 use Rattle.rle.specs.declared.fault.ReadCause.TheVariants.{Byte, Outside, Ended}

@@ -1,7 +1,7 @@
 use Rattle.std.proofs.Common.{◌-◌, sym, ap, ◌∙◌, arith}
 use Rattle.rle.specs.Scans.{digits_on}
 use Rattle.reader.specs.Left.{left}
-use Rattle.reader.proofs.Numerals.{digits_over, digits_full, digits_next, digits_last, grown, small}
+use Rattle.reader.proofs.Numerals.{digits_over, digits_over_four, digits_next, digits_last, grown, small}
 use Rattle.reader.proofs.reader.Reader.digits.Goals as goal
 
 pub longer-requires : goal.longer-requires
@@ -29,7 +29,7 @@ loop-preserved c =
 pub returns-in-Some-longer : goal.returns-in-Some-longer
 returns-in-Some-longer c =
     let t = left c.loop.self in
-    record { text = c.loop.invariant.0; told = digits_full c.loop.number _ t (sym c.in-Some-longer.ensures) ∙ digits_last c.loop.counter c.loop.number t c.loop-test.false ∙ c.loop.invariant.1 }
+    record { text = c.loop.invariant.0; told = digits_over_four c.loop.number _ t (sym c.in-Some-longer.ensures) ∙ digits_last c.loop.counter c.loop.number t c.loop-test.false ∙ c.loop.invariant.1 }
 
 pub returns-in-None : goal.returns-in-None
 returns-in-None c =
