@@ -1,6 +1,7 @@
 ghost use Rattle.std.specs.Prelude.{◌≡◌, ℕ, ◌<◌, ◌≤◌, vec_len, slice_index};
 
-// What the ties ask of a class: to be off, to be on, both (then it is torn) or nothing.
+// What the ties ask of a class: to be off, to be on, both (then it is torn) or nothing. Two flags and
+// no enum, since each is asked without a look at the other.
 #[derive(Clone, Copy, Default)]
 pub struct Musts {
     pub off: bool,

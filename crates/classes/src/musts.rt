@@ -28,7 +28,7 @@ fn note(musts: &mut [Musts], class: u16, tie: Tie)
     requires { class < length musts.old }
     ensures { musts.new ≡ asked_by musts.old class tie }
 {
-    let class = class as usize;
+    let class = usize::from(class);
     match tie {
         Tie::Off => musts[class].off = true,
         Tie::On => musts[class].on = true,

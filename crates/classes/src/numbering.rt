@@ -52,7 +52,7 @@ impl Numbering {
         requires room { length self.old.classes < 4096 }
         ensures { OnOk result (self.new ≡ numbered_too self.old label) }
     {
-        let Some(class) = self.labels.get(label as usize).copied() else {
+        let Some(class) = self.labels.get(usize::from(label)).copied() else {
             return self.begin(label);
         };
         self.labels.push(class)?;

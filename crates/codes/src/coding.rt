@@ -43,7 +43,7 @@ impl Value {
 impl Descriptor {
     // A descriptor, unless it would have more than 8 neighbours.
     pub fn new(centre: Value, on: u32, unknown: u32, successor: Value) -> Option<Descriptor>
-        ensures { MatchOption result ((on + unknown ≤ 8) → ⊥) (λ d. d ≡ record { centre = centre; on = on; unknown = unknown; successor = successor }) }
+        ensures { MatchOption result (¬ (on + unknown ≤ 8)) (λ d. d ≡ record { centre = centre; on = on; unknown = unknown; successor = successor }) }
     {
         if on > 8 || unknown > 8 - on {
             return None;

@@ -1,4 +1,5 @@
-// Whether every fitting pair says off, and whether every one says on.
+// Whether every fitting pair says off, and whether every one says on: two flags and no enum, since
+// of a part that has no unknown neighbour every pair says both.
 #[derive(Clone, Copy)]
 pub(crate) struct Verdict {
     pub(crate) off: bool,
