@@ -88,14 +88,12 @@ fn fix_by(space: &mut Fixed<Mirror<Surface>>, line: &[u8]) -> Result<(), Cause>
 }
 
 // All further lines.
-fn fix_all(space: &mut Fixed<Mirror<Surface>>, mut lines: Lines<'_>) -> Result<(), ProblemFault>
+fn fix_all(space: &mut Fixed<Mirror<Surface>>, lines: Lines<'_>) -> Result<(), ProblemFault>
     requires { length lines.rest.now ≤ 65536 }
     ensures { IfErr result (Refuses 65541) }
 {
-    let mut number = 6;
-    while let Some(line) = lines.next_line() {
+    for (line, number) in lines.zip(6..) {
         at_line(number, fix_by(space, line))?;
-        number += 1;
     }
     Ok(())
 }
