@@ -28,7 +28,7 @@ impl From<GoFault> for ListFault {
     ghost from_gives = { λ go fault. fault ≡ listing.Go go };
 
     fn from(go: GoFault) -> ListFault {
-        ListFault::Go(go)
+        Self::Go(go)
     }
 }
 
@@ -36,7 +36,7 @@ impl From<WriteFault> for ListFault {
     ghost from_gives = { λ write fault. fault ≡ listing.Write write };
 
     fn from(write: WriteFault) -> ListFault {
-        ListFault::Write(write)
+        Self::Write(write)
     }
 }
 
@@ -44,7 +44,7 @@ impl From<TallyFault> for ListFault {
     ghost from_gives = { λ tally fault. fault ≡ listing.Tally tally };
 
     fn from(tally: TallyFault) -> ListFault {
-        ListFault::Tally(tally)
+        Self::Tally(tally)
     }
 }
 
@@ -52,7 +52,7 @@ impl From<PageFault> for ListFault {
     ghost from_gives = { λ page fault. fault ≡ listing.Foot page };
 
     fn from(page: PageFault) -> ListFault {
-        ListFault::Foot(page)
+        Self::Foot(page)
     }
 }
 
@@ -60,7 +60,7 @@ impl From<Closed> for ListFault {
     ghost from_gives = { λ _ fault. fault ≡ listing.Closed };
 
     fn from(_closed: Closed) -> ListFault {
-        ListFault::Closed
+        Self::Closed
     }
 }
 

@@ -26,6 +26,7 @@ fn ranked_classes<O: Order>(
 impl Record {
     // The record of a search that was opened on a space, an order and a rule: settled, with no
     // decision and nothing told. A torn class is a contradiction that never goes.
+    // The four stay apart: a struct of them would be made for this one call and taken apart at once.
     pub(crate) fn open<S: Space, O: Order>(
         heap: Global,
         space: &S,

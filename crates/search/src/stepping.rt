@@ -1,5 +1,5 @@
-ghost use Rattle.std.specs.Prelude.{◌≡◌, ℕ, ◌+◌, ◌<◌, ◌≤◌, IfSome, vec_len, slice_index_or};
-ghost use Rattle.search.specs.Decided.{ChoiceFrom, first};
+ghost use Rattle.std.specs.Prelude.{◌≡◌, ℕ, ◌+◌, ◌<◌, ◌≤◌, IfSome, vec_len};
+ghost use Rattle.search.specs.Decided.{ChoiceFrom};
 ghost use Rattle.search.specs.Records.{OnlyBoard};
 
 use crate::record::Record;
@@ -40,15 +40,6 @@ impl Record {
         self.decisions.iter().rposition(|decision| !decision.on)
     }
 
-    // A standing decision.
-    fn decision(&self, at: usize) -> Decision
-        requires { at < vec_len self.now.decisions }
-        ensures value { result ≡ slice_index_or self.now.decisions.items at first }
-        ensures rank { (at ≤ result.rank) × (result.rank < vec_len self.now.ranks) }
-    {
-        self.decisions[at]
-    }
-
     // Decides for the class of a rank, and settles.
     fn decide(&mut self, decision: Decision)
         requires inside { decision.rank < vec_len self.old.ranks }
@@ -78,7 +69,7 @@ impl Record {
         let Some(at) = self.last_off() else {
             return;
         };
-        let decision = self.decision(at);
+        let decision = self.decisions[at];
         self.board.undo(decision.mark);
         self.decisions.truncate(at);
         self.decide(Decision {
