@@ -38,12 +38,10 @@ impl<'a> Reader<'a> {
             *self = start;
             return Err(ReadCause::Outside);
         };
-        let run = Run {
-            count: count as usize,
-            mark,
-        };
+        // no `From` widens a u32 to a usize
+        let count = count as usize;
         Ok(Taken {
-            item: Item::Run(run),
+            item: Item::Run(Run { count, mark }),
             phase: Phase::Body(next),
         })
     }

@@ -26,6 +26,7 @@ impl<'a> Reader<'a> {
     {
         let line = self.line_here();
         self.at += line.len();
+        // a line is shown to be no longer than a text, so nothing is lost and nothing can fail here
         self.column += line.len() as u32;
         self.this_byte(b'\n')?;
         Ok(line)

@@ -36,7 +36,7 @@ impl<'a> Reader<'a> {
         }
     }
 
-    // Passes all that may be passed over.
+    // Passes all that may be passed over, byte by byte, since each moves the line or the column.
     pub(crate) fn skip(&mut self, gap: Gap)
         ensures { Passed (past (filler gap)) self.old self.new }
     {

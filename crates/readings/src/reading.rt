@@ -9,6 +9,7 @@ const MOST_ITEMS: u32 = 65_537;
 fn rule_place(text: &[u8]) -> Result<Option<Place>, Refusal> {
     let mut reader = Reader::new(text);
     let mut rule = None;
+    // the reader answers its end again and again, so it is no iterator that runs out
     for _ in 0..MOST_ITEMS {
         let located = reader.next_item()?;
         match located.item {

@@ -13,7 +13,8 @@ pub enum Step {
     Loose(u8),
 }
 
-// Where the next run is laid: a column and a row of a pattern of so many columns and rows.
+// Where the next run is laid: a column and a row of a pattern of so many columns and rows. It has no
+// invariant: its fields are public, and one would ask something of all who make a cursor.
 #[derive(Clone, Copy, PartialEq, Eq, Debug)]
 pub struct Cursor {
     pub width: u32,
