@@ -18,6 +18,7 @@ const ROOM: usize = 45 + 2 * 32 * 32 + 2;
 // pattern has its cells row by row, and those beyond its end count as off. Where the text does not
 // fit the page is as it was: its length is known before the first byte of the page is written. It reads as
 // the pattern that it was written from.
+#[tactic(auto, using(rle::proofs::Written::round_trip, rle::proofs::Written::text_short, crate::proofs::Puts::placed_lent))]
 pub fn write_pattern(
     page: &mut [u8],
     at: usize,

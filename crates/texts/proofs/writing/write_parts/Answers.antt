@@ -1,7 +1,5 @@
-use Rattle.std.proofs.Common.{List, ℕ, ◌++◌, ap, subst}
 use Rattle.rules.specs.Forms.{written}
-use Rattle.pages.specs.Pages.{Placed}
-use Rattle.rle.specs.Texts.{heading_text, body_text}
+use Rattle.rle.specs.Texts.{heading_text}
 use Rattle.texts.proofs.Puts.{placed_both}
 use Rattle.texts.proofs.writing.write_parts.Goals as goal
 
