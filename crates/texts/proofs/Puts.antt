@@ -54,9 +54,9 @@ counted_more n old mid new at d e more fits put same goes =
     let done = put.fits (omega (arith, ap length is)) in
     subst P (sym is) (goes ∙ done.0, same ∙ done.1)
 
--- the heading, part by part
-pub heading_placed : (w h : ℕ) (name t0 t1 t2 t3 t4 t5 t6 t7 : List ℕ) (e1 e2 e3 e4 e5 e6 e7 : ℕ) → length (heading_text w h name) ≤ length t0 → PlacedIfFits t0 0 (codes "x = ") t1 e1 → PlacedIfFits t1 e1 (decimal w) t2 e2 → PlacedIfFits t2 e2 (codes ", y = ") t3 e3 → PlacedIfFits t3 e3 (decimal h) t4 e4 → PlacedIfFits t4 e4 (codes ", rule = ") t5 e5 → PlacedIfFits t5 e5 name t6 e6 → PlacedIfFits t6 e6 (10 ∷ []) t7 e7 → Placed t0 0 (heading_text w h name) t7 e7
-heading_placed w h name t0 t1 t2 t3 t4 t5 t6 t7 e1 e2 e3 e4 e5 e6 e7 fits p1 p2 p3 p4 p5 p6 p7 =
+-- the heading, part by part, from what width, height and name were said to be
+pub heading_placed : (w h v g : ℕ) (name bytes t0 t1 t2 t3 t4 t5 t6 t7 : List ℕ) (e1 e2 e3 e4 e5 e6 e7 : ℕ) → v ≡ w → g ≡ h → bytes ≡ name → length (heading_text w h name) ≤ length t0 → PlacedIfFits t0 0 (codes "x = ") t1 e1 → PlacedIfFits t1 e1 (decimal v) t2 e2 → PlacedIfFits t2 e2 (codes ", y = ") t3 e3 → PlacedIfFits t3 e3 (decimal g) t4 e4 → PlacedIfFits t4 e4 (codes ", rule = ") t5 e5 → PlacedIfFits t5 e5 bytes t6 e6 → PlacedIfFits t6 e6 (10 ∷ []) t7 e7 → Placed t0 0 (heading_text w h name) t7 e7
+heading_placed w h v g name bytes t0 t1 t2 t3 t4 t5 t6 t7 e1 e2 e3 e4 e5 e6 e7 vw gh bn fits p1 p2 p3 p4 p5 p6 p7 =
     let s2 : List ℕ = codes "x = " ++ decimal w in
     let s3 : List ℕ = s2 ++ codes ", y = " in
     let s4 : List ℕ = s3 ++ decimal h in
@@ -69,11 +69,11 @@ heading_placed w h name t0 t1 t2 t3 t4 t5 t6 t7 e1 e2 e3 e4 e5 e6 e7 fits p1 p2 
     let long3 = length-append s2 (codes ", y = ") in
     let long2 = length-append (codes "x = ") (decimal w) in
     let q1 = p1.fits (omega arith) in
-    let q2 = put_next t0 t1 t2 (codes "x = ") (decimal w) 0 e1 e2 (omega arith) q1 p2 in
+    let q2 = put_next t0 t1 t2 (codes "x = ") (decimal w) 0 e1 e2 (omega arith) q1 (rw vw at p2) in
     let q3 = put_next t0 t2 t3 s2 (codes ", y = ") 0 e2 e3 (omega arith) q2 p3 in
-    let q4 = put_next t0 t3 t4 s3 (decimal h) 0 e3 e4 (omega arith) q3 p4 in
+    let q4 = put_next t0 t3 t4 s3 (decimal h) 0 e3 e4 (omega arith) q3 (rw gh at p4) in
     let q5 = put_next t0 t4 t5 s4 (codes ", rule = ") 0 e4 e5 (omega arith) q4 p5 in
-    let q6 = put_next t0 t5 t6 s5 name 0 e5 e6 (omega arith) q5 p6 in
+    let q6 = put_next t0 t5 t6 s5 name 0 e5 e6 (omega arith) q5 (rw bn at p6) in
     put_next t0 t6 t7 s6 (10 ∷ []) 0 e6 e7 (omega arith) q6 p7
 
 -- a head, and a body into the tail after it
