@@ -1,7 +1,7 @@
 -- The text of a pattern is of the grammar, and so reads as that pattern.
 use Rattle.std.proofs.Common.{◌≡◌, ℕ, zero, suc, pred, ◌+◌, ◌*◌, ◌≤◌, Bool, true, false, not, eqb, leb, List, [], ◌∷◌, ◌++◌, length, take, Some, codes, decimal, sym, refl, ap, ◌∙◌, inl, inr, ⊎_elim, mul-le-mul, arith}
 use Rattle.std.specs.List.{range_with_len, flat_map}
-use Rattle.std.proofs.lemmas.Fmt.{length-decimal-le, length-decimal-le_succ}
+use Rattle.std.proofs.lemmas.Fmt.{length-decimal-le}
 use Rattle.std.proofs.lemmas.List.{append_assoc, append-nil, length-append, length-take}
 use Rattle.std.proofs.lemmas.Bool.{cases_eq, cases_lt, cond-true, cond-false, cond_both, eq-eqb, ne_eqb, leb-true}
 use Rattle.std.proofs.lemmas.Bool.Decides.{nat_tests}
@@ -196,20 +196,25 @@ few_cells w h cells a b = omega (arith, length-take (w * h) cells, mul-le-mul a 
 few_all : (w h : ℕ) (cells : List Bool) → w ≤ 32 → h ≤ 32 → length (pattern_marks w h cells) ≤ 2048
 few_all w h cells a b = omega (arith, few_marks w w (take (w * h) cells), few_cells w h cells a b)
 
--- how long the body of a pattern is at most
-pub pattern_short : (w h : ℕ) (cells : List Bool) → w ≤ 32 → h ≤ 32 → length (body_text (pattern_marks w h cells)) ≤ 2050
-pattern_short w h cells a b =
-    let ms = pattern_marks w h cells in
-    let counts = grouped_total ms in
-    let few = few_all w h cells a b in
-    omega (arith, length-append (flat_map run_text (grouped ms)) (33 ∷ 10 ∷ []), body_short (grouped ms) counts.1 (omega arith), counts.0)
-
-line_short : (w h : ℕ) (name : List ℕ) → w ≤ 32 → h ≤ 32 → length name ≤ 21 → length (head_line w h name) ≤ 100
+line_short : (w h : ℕ) (name : List ℕ) → w ≤ 32 → h ≤ 32 → length name ≤ 21 → length (head_line w h name) ≤ 44
 unfolding head_line
 line_short w h name a b c =
     let d = length-decimal-le 2 w (omega arith) (omega arith) (omega arith) in
     let e = length-decimal-le 2 h (omega arith) (omega arith) (omega arith) in
     simp length-append (omega arith)
+
+-- how long the text of a pattern is at most: a heading of 45 bytes, two marks for each of 1,024 cells, and the end
+pub text_short : (w h births survivals : ℕ) (cells : List Bool) → w ≤ 32 → h ≤ 32 → length (pattern_text w h (written births survivals) cells) ≤ 45 + 2048 + 2
+text_short w h births survivals cells a b =
+    let name = written births survivals in
+    let ms = pattern_marks w h cells in
+    let runs = grouped ms in
+    let line = head_line w h name in
+    let counts = grouped_total ms in
+    let few = few_all w h cells a b in
+    let one = line_short w h name a b (written_solid births survivals).1 in
+    let two = body_short runs counts.1 (omega (arith, counts.0)) in
+    omega (arith, ap length (heading_whole w h name (body_text ms)), length-append line (10 ∷ body_text ms), length-append (flat_map run_text runs) (33 ∷ 10 ∷ []), one, two, counts.0)
 
 pub round_trip : RoundTrip
 round_trip w h births survivals cells a b c d =
@@ -231,10 +236,7 @@ round_trip w h births survivals cells a b c d =
       inside = pattern_inside w h cells a;
     }) in
     record {
-      short =
-          let one = line_short w h name b d solid-name.1 in
-          let two = body_short runs counts.1 some in
-          omega (arith, ap length whole, length-append line (10 ∷ body), length-append (flat_map run_text runs) (33 ∷ 10 ∷ []), one, two, counts.0);
+      short = omega (arith, text_short w h births survivals cells b d);
       runs = runs;
       items = reads.0;
       finishes = reads.1;

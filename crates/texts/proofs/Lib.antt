@@ -1,3 +1,4 @@
 pub mod Leads
 pub mod Rows
 pub mod Groups
+pub mod Puts

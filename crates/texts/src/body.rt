@@ -1,31 +1,34 @@
-ghost use Rattle.std.specs.Prelude.{◌≡◌, ◌+◌, ◌≤◌, ◌++◌, length};
-ghost use Rattle.arrayvec.specs.ArrayString.{array_string_len};
+ghost use Rattle.std.specs.Prelude.{◌+◌, ◌≤◌, length};
+ghost use Rattle.pages.specs.Pages.{Placed};
 ghost use Rattle.rle.specs.Texts.{run_text, body_text};
 ghost use Rattle.texts.specs.Marks.{left};
 
 use crate::mark::Runs;
-use crate::text::{ROOM, Text};
-use itoa::Buffer;
+use pages::{put, put_number};
 use rle::Run;
 
-// Appends a run: its count, unless it is 1, and its letter.
-fn push_run(text: &mut Text, run: Run)
-    requires { array_string_len text.old + length (run_text run) ≤ ROOM }
-    ensures { text.new.bytes ≡ text.old.bytes ++ run_text run }
+// Writes a run from a place on, its count, unless it is 1, and its letter, and answers the place after it.
+fn put_run(tail: &mut [u8], at: usize, run: Run) -> usize
+    requires { at + length (run_text run) ≤ length tail.old }
+    ensures { Placed tail.old at (run_text run) tail.new result }
 {
-    if run.count != 1 {
-        text.push_str(Buffer::new().format(run.count));
-    }
-    text.push(char::from(u8::from(run.mark)));
+    let after_count = if run.count == 1 {
+        at
+    } else {
+        // `as`: no `From` takes a `usize` to a `u64`
+        put_number(tail, at, run.count as u64)
+    };
+    put(tail, after_count, &[u8::from(run.mark)])
 }
 
-// Appends the runs and the end.
-pub(crate) fn push_body(text: &mut Text, runs: Runs)
-    requires { array_string_len text.old + length (body_text (left runs)) ≤ ROOM }
-    ensures { text.new.bytes ≡ text.old.bytes ++ body_text (left runs.entry) }
+// Writes the runs and the end at the front of the tail, and answers their length.
+pub(crate) fn write_body(tail: &mut [u8], runs: Runs) -> usize
+    requires { length (body_text (left runs)) ≤ length tail.old }
+    ensures { Placed tail.old 0 (body_text (left runs.entry)) tail.new result }
 {
+    let mut end = 0;
     for run in runs {
-        push_run(text, run);
+        end = put_run(tail, end, run);
     }
-    text.push_str("!\n");
+    put(tail, end, b"!\n")
 }

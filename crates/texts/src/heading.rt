@@ -1,25 +1,24 @@
-ghost use Rattle.std.specs.Prelude.{◌≡◌, ◌≤◌};
-ghost use Rattle.arrayvec.specs.ArrayString.{array_string_len};
+ghost use Rattle.std.specs.Prelude.{◌≤◌, length};
 ghost use Rattle.rules.specs.Forms.{written};
+ghost use Rattle.pages.specs.Pages.{Placed};
 ghost use Rattle.rle.specs.Texts.{heading_text};
 
-use crate::text::Text;
 use frames::Frame;
-use itoa::Buffer;
+use pages::{put, put_number};
 use rules::Rule;
 
-// A text that begins with the heading, and so far has nothing else.
-pub(crate) fn heading(frame: &Frame, rule: &Rule) -> Text
-    ensures bytes { result.bytes ≡ heading_text frame.now.width frame.now.height (written rule.now.births rule.now.survivals) }
-    ensures short { array_string_len result ≤ 61 }
+// Writes the heading at the front of the tail, and answers its length.
+pub(crate) fn write_heading(tail: &mut [u8], frame: &Frame, rule: &Rule) -> usize
+    requires { length (heading_text frame.now.width frame.now.height (written rule.now.births rule.now.survivals)) ≤ length tail.old }
+    ensures { Placed tail.old 0
+        (heading_text frame.now.width frame.now.height (written rule.now.births rule.now.survivals))
+        tail.new result }
 {
-    let mut text = Text::new();
-    text.push_str("x = ");
-    text.push_str(Buffer::new().format(frame.width()));
-    text.push_str(", y = ");
-    text.push_str(Buffer::new().format(frame.height()));
-    text.push_str(", rule = ");
-    text.push_str(rule.text().as_str());
-    text.push_str("\n");
-    text
+    let after_x = put(tail, 0, b"x = ");
+    let after_width = put_number(tail, after_x, u64::from(frame.width()));
+    let after_y = put(tail, after_width, b", y = ");
+    let after_height = put_number(tail, after_y, u64::from(frame.height()));
+    let after_key = put(tail, after_height, b", rule = ");
+    let after_rule = put(tail, after_key, rule.text().as_str().as_bytes());
+    put(tail, after_rule, b"\n")
 }

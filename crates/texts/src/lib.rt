@@ -5,7 +5,6 @@ mod body;
 mod heading;
 mod mark;
 mod runs;
-mod text;
 mod writing;
 
 pub use pages::PageFault;

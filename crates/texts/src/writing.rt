@@ -1,19 +1,24 @@
+ghost use Rattle.std.specs.Prelude.{◌≤◌, length};
 ghost use Rattle.rules.specs.Forms.{written};
-ghost use Rattle.pages.specs.Pages.{Written};
+ghost use Rattle.pages.specs.Pages.{Placed, Written};
 ghost use Rattle.rle.specs.Back.{ReadsAs};
 ghost use Rattle.rle.specs.Texts.{pattern_text};
 
-use crate::body::push_body;
-use crate::heading::heading;
+use crate::body::write_body;
+use crate::heading::write_heading;
 use crate::mark::Runs;
 use frames::Frame;
-use pages::{PageFault, write_text};
+use pages::PageFault;
 use rules::Rule;
+
+// Room for the longest text: a heading of 45 bytes, two marks for each of 32 times 32 cells, and the end.
+const ROOM: usize = 45 + 2 * 32 * 32 + 2;
 
 // Writes the text of a pattern into the page from a place on, and answers the place after it. The
 // pattern has its cells row by row, and those beyond its end count as off. Where the text does not
-// fit the page is as it was: the text is put together before the first byte is written. It reads as the
-// pattern that it was written from.
+// fit the page is as it was: its length is known before the first byte of the page is written. It reads as
+// the pattern that it was written from.
+#[tactic(auto, using(rle::proofs::Written::round_trip, rle::proofs::Written::text_short, crate::proofs::Puts::placed_lent))]
 pub fn write_pattern(
     page: &mut [u8],
     at: usize,
@@ -27,7 +32,21 @@ pub fn write_pattern(
     ensures back { ReadsAs frame.now.width frame.now.height (written rule.now.births rule.now.survivals) pattern.now
         (pattern_text frame.now.width frame.now.height (written rule.now.births rule.now.survivals) pattern.now) }
 {
-    let mut text = heading(frame, rule);
-    push_body(&mut text, Runs::new(frame, pattern));
-    write_text(page, at, text.as_bytes())
+    // written aside first, by the same writers, to know its length
+    let length = write_parts(&mut [0; ROOM], frame, rule, pattern);
+    if at > page.len() || page.len() - at < length {
+        return Err(PageFault::Short);
+    }
+    Ok(at + write_parts(&mut page[at..], frame, rule, pattern))
+}
+
+// Writes the heading and the body at the front of the tail, and answers their length.
+fn write_parts(tail: &mut [u8], frame: &Frame, rule: &Rule, pattern: &[bool]) -> usize
+    requires { length (pattern_text frame.now.width frame.now.height (written rule.now.births rule.now.survivals) pattern.now) ≤ length tail.old }
+    ensures { Placed tail.old 0
+        (pattern_text frame.now.width frame.now.height (written rule.now.births rule.now.survivals) pattern.now)
+        tail.new result }
+{
+    let headed = write_heading(tail, frame, rule);
+    headed + write_body(&mut tail[headed..], Runs::new(frame, pattern))
 }
