@@ -1,12 +1,14 @@
 ghost use Rattle.std.specs.Prelude.{◌≡◌, ◌+◌, ◌<◌, ◌≤◌, MatchOption};
 ghost use Rattle.codes.specs.Codes.{code, is_unknown};
 ghost use Rattle.codes.specs.Laws.{CodeLaw};
+ghost use Rattle.codes.specs.Parts.{said_of};
 ghost use Rattle.codes.specs.Tables.{index};
 ghost use Rattle.codes.specs.Values.{number_of, agrees};
 ghost use Rattle.rules.specs.Answers.{answer};
 
 use crate::common::Common;
 use crate::descriptor::Descriptor;
+use crate::part::{CENTRE, NEIGHBOURS, Part, SUCCESSOR};
 use crate::value::Value;
 use rules::Rule;
 
@@ -14,7 +16,7 @@ use rules::Rule;
 pub const CONTRADICTION: u8 = 1;
 
 impl Value {
-    // The number of a value: 0 off, 1 on, 2 unknown.
+    // The number of a value: 0 off, 1 on, 2 unknown. The call of old, beside the From.
     pub fn number(&self) -> u32
         ensures { result ≡ number_of self.now }
     {
@@ -33,7 +35,7 @@ impl Value {
     }
 
     // Whether nothing is known of the cell.
-    fn is_unknown(&self) -> bool
+    pub fn is_unknown(&self) -> bool
         ensures { result ≡ is_unknown self.now }
     {
         matches!(self, Value::Unknown)
@@ -61,9 +63,19 @@ impl Descriptor {
         ensures index { result ≡ index self.now }
         ensures below { result < 729 }
     {
+        // no From takes a u32, which the counts are, to a usize
         let centre = u32::from(self.centre);
         let successor = u32::from(self.successor);
         (((centre * 9 + self.on) * 9 + self.unknown) * 3 + successor) as usize
+    }
+}
+
+impl Part {
+    // Whether a code says off or on of this part; none where it says neither.
+    pub fn said(self, code: u8) -> Option<bool>
+        ensures { result ≡ said_of self code }
+    {
+        (code & (self.off | self.on) != 0).then_some(code & self.on != 0)
     }
 }
 
@@ -76,10 +88,10 @@ pub fn code_of(rule: &Rule, descriptor: &Descriptor) -> u8
     let Some(common) = Common::of(rule, descriptor) else {
         return CONTRADICTION;
     };
-    let centre = common.centre.weight(descriptor.centre.is_unknown(), 2, 4);
+    let centre = common.centre.weight(descriptor.centre.is_unknown(), CENTRE);
     let successor = common
         .successor
-        .weight(descriptor.successor.is_unknown(), 8, 16);
-    let neighbours = common.neighbours.weight(descriptor.unknown > 0, 32, 64);
+        .weight(descriptor.successor.is_unknown(), SUCCESSOR);
+    let neighbours = common.neighbours.weight(descriptor.unknown > 0, NEIGHBOURS);
     centre + successor + neighbours
 }

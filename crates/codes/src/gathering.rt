@@ -5,6 +5,7 @@ ghost use Rattle.rules.specs.Answers.{answer};
 
 use crate::common::{Common, Verdict};
 use crate::descriptor::Descriptor;
+use crate::part::Part;
 use rules::Rule;
 
 impl Verdict {
@@ -29,15 +30,14 @@ impl Verdict {
     }
 
     // The weight of what every pair says of a part; 0 for a part that is known.
-    pub(crate) fn weight(self, unknown: bool, off: u8, on: u8) -> u8
-        requires { off + on < 256 }
-        ensures { result ≡ (if unknown then (if self.off then off else 0) + (if self.on then on else 0) else 0) }
+    pub(crate) fn weight(self, unknown: bool, part: Part) -> u8
+        ensures { result ≡ (if unknown then (if self.off then part.off else 0) + (if self.on then part.on else 0) else 0) }
     {
         if !unknown {
             return 0;
         }
-        let off_weight = if self.off { off } else { 0 };
-        let on_weight = if self.on { on } else { 0 };
+        let off_weight = if self.off { part.off } else { 0 };
+        let on_weight = if self.on { part.on } else { 0 };
         off_weight + on_weight
     }
 }
@@ -93,6 +93,7 @@ impl Common {
     pub(crate) fn of(rule: &Rule, descriptor: &Descriptor) -> Option<Common>
         ensures { result ≡ common_of (answer rule.now) descriptor.now (fitting (answer rule.now) descriptor.now) }
     {
+        // no `0..=`: a goal of its loop has a name that isn't stable
         let mut common = None;
         for more in 0..descriptor.unknown + 1 {
             common = Common::with(common, rule, descriptor, true, more);

@@ -16,6 +16,7 @@ fn code_at_place(rule: &Rule, place: usize) -> u8
     ensures { result ≡ code_at (answer rule.now) place }
 {
     let centre = Value::try_from(place / 243).unwrap();
+    // shown to fit, so that nothing can fail here
     let on = (place / 27 % 9) as u32;
     let unknown = (place / 3 % 9) as u32;
     let successor = Value::try_from(place % 3).unwrap();

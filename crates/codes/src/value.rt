@@ -23,6 +23,15 @@ impl From<Value> for u32 {
     }
 }
 
+impl From<Value> for usize {
+    ghost from_gives = { λ value number. number ≡ number_of value };
+
+    fn from(value: Value) -> usize {
+        // no From takes a u32 to a usize
+        u32::from(value) as usize
+    }
+}
+
 // A number that no value has.
 #[derive(Clone, Copy, PartialEq, Eq, Debug)]
 pub struct UnknownNumber(pub usize);

@@ -10,8 +10,9 @@ use systems::Instance;
 // How far out of the box instances reach.
 const REACH: u32 = 9;
 
-// The first column and row of instances, counted from the corner of the margin.
-const FIRST: u32 = 8;
+// The first column and row of instances, counted from the corner of the margin: the margin of the
+// looks is 17, and instances reach 9 of it.
+const FIRST: u32 = 17 - REACH;
 
 // A place in or around the box that is looked at in one generation: its column and row are counted
 // from the corner of the margin.
@@ -64,10 +65,12 @@ impl Ground<'_> {
     }
 
     // The class of the cell that is looked at; where there is none, the class past the last, which
-    // stands for nothing.
+    // stands for nothing: an Option in each neighbour would double an instance and add a test to
+    // each look.
     fn class_at(&self, spot: Spot) -> u16
         ensures { result ≤ vec_len self.now.classes.now.lowest }
     {
+        // no From takes a u32 to a usize; the count is shown to fit, so that nothing can fail here
         self.looks
             .at(spot.column, spot.row)
             .and_then(|Place { x, y }| self.frame.number_of(Cell { x, y, t: spot.t }))

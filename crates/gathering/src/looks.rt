@@ -27,6 +27,7 @@ impl Looks {
     // Asks for every look from 17 places before the box to 16 past its last.
     pub(crate) fn of<P: Plane>(heap: Global, plane: &P) -> Result<Looks, AllocError> {
         let frame = plane.frame();
+        // shown to fit, so that nothing can fail here
         let right = frame.width() as i32 + MARGIN;
         let bottom = frame.height() as i32 + MARGIN;
         let rows = (-MARGIN..bottom)
@@ -37,6 +38,7 @@ impl Looks {
 
     // The look at a column and a row from the corner; nothing further out.
     pub(crate) fn at(&self, column: u32, row: u32) -> Option<Place> {
+        // no From takes a u32 to a usize
         *self.rows.get(row as usize)?.get(column as usize)?
     }
 }

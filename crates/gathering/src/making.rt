@@ -52,7 +52,7 @@ impl System {
         ensures value { result.now ≡ touching_of self.now class }
         ensures within { Under (length (instances_of self.now)) result.now }
     {
-        match self.touching.get(class as usize) {
+        match self.touching.get(usize::from(class)) {
             Some(numbers) => numbers.as_slice(),
             None => &[],
         }

@@ -14,6 +14,8 @@ fn touching(heap: Global, instances: &[Instance], class: u16) -> Result<Vec<u16>
     requires { length instances.now ≤ 40000 }
     ensures { IfOk result (λ numbers. Under (length instances.now) numbers.items) }
 {
+    // neither `zip` nor `filter`, `map` and `collect`: no proof closed that each number they give is
+    // that of an instance
     let mut numbers = Vec::new(heap);
     for (number, instance) in instances.iter().enumerate() {
         if touches(instance, class) {
@@ -34,9 +36,8 @@ pub(crate) fn touching_each(
     ensures within { IfOk result (λ each. EachUnder (length instances.now) each.items) }
     ensures len { IfOk result (λ each. vec_len each ≡ classes) }
 {
-    let mut each = Vec::with_capacity(heap, classes)?;
-    for class in 0..classes {
-        each.push(touching(heap, instances, class as u16)?)?;
-    }
-    Ok(each)
+    // shown to fit, so that nothing can fail here
+    (0..classes as u16)
+        .map(|class| touching(heap, instances, class))
+        .try_collect(heap)
 }

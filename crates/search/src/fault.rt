@@ -62,6 +62,7 @@ pub enum GoFault {
 }
 
 impl GoFault {
+    // The number that a user sees.
     pub fn number(&self) -> u32
         ensures { result ≡ go_number self.now }
     {
@@ -84,6 +85,7 @@ pub enum WriteFault {
 }
 
 impl WriteFault {
+    // The number that a user sees.
     pub fn number(&self) -> u32
         ensures { result ≡ write_number self.now }
     {
@@ -111,6 +113,7 @@ pub enum TallyFault {
 }
 
 impl TallyFault {
+    // The number that a user sees.
     pub fn number(&self) -> u32
         ensures { result ≡ tally_number self.now }
     {

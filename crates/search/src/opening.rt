@@ -18,6 +18,7 @@ fn ranked_classes<O: Order>(
     frame: &Frame,
     classes: &Classes,
 ) -> Result<Vec<u16>, AllocError> {
+    // no From takes a u32 to a usize
     (0..frame.cells())
         .filter_map(|rank| classes.class_of(order.cell_at(frame, rank) as usize))
         .collect(heap)

@@ -20,7 +20,8 @@ pub struct Record {
     // the standing decisions, with room for one of each rank
     pub(crate) decisions: Vec<Decision>,
     pub(crate) standing: Standing,
-    // whether the last go answered found
+    // whether the last go answered found: no case of the standing, since a told find may stand when
+    // a later go answered done
     pub(crate) found: bool,
     pub(crate) tally: u64,
     ghost reserved: { vec_len ranks ≤ vec_capacity decisions },

@@ -50,9 +50,7 @@ impl Search {
     pub fn go(&mut self, steps: u32) -> Result<Answer, GoFault>
         ensures steps { MatchResult result (λ a. steps_of a ≤ steps) (λ _. self.new ≡ self.old) }
     {
-        let Some(record) = &mut self.record else {
-            return Err(GoFault::Blank);
-        };
+        let record = self.record.as_mut().ok_or(GoFault::Blank)?;
         if !(1..=1_000_000).contains(&steps) {
             return Err(GoFault::Steps);
         }

@@ -15,7 +15,7 @@ impl Record {
             .ranks
             .get(from..)?
             .iter()
-            .position(|class| matches!(self.board.value(*class), Value::Unknown))?;
+            .position(|class| self.board.value(*class) == Value::Unknown)?;
         Some(from + at)
     }
 
@@ -27,10 +27,8 @@ impl Record {
         if self.board.settle().is_err() {
             return Standing::Contradiction;
         }
-        match self.next_unknown(from) {
-            Some(rank) => Standing::Choice(rank),
-            None => Standing::Find,
-        }
+        self.next_unknown(from)
+            .map_or(Standing::Find, Standing::Choice)
     }
 
     // The last decision that is off.

@@ -4,30 +4,11 @@ ghost use Rattle.settling.specs.Knowing.{Grown};
 
 use crate::contradiction::Contradiction;
 use crate::known::Known;
-use codes::{CONTRADICTION, Table, Value};
+use codes::{CENTRE, CONTRADICTION, NEIGHBOURS, SUCCESSOR, Table, Value};
 use systems::Instance;
 
-// What a code says, as a sum of these: see `codes::code_of`.
-const CENTRE_OFF: u8 = 2;
-
-const CENTRE_ON: u8 = 4;
-
-const SUCCESSOR_OFF: u8 = 8;
-
-const SUCCESSOR_ON: u8 = 16;
-
-const NEIGHBOURS_OFF: u8 = 32;
-
-const NEIGHBOURS_ON: u8 = 64;
-
-// Whether a code says off or on of a part, whose two summands these are; none where it says neither.
-fn said(code: u8, off: u8, on: u8) -> Option<bool> {
-    if code & (off | on) == 0 {
-        None
-    } else {
-        Some(code & on != 0)
-    }
-}
+// The weight of a neighbour and the index of an instance spell out the layout of
+// `Descriptor::index`, so that the hot loop makes no descriptor.
 
 // What a neighbour adds to the index of a descriptor: 27 where it is on, 3 where it is unknown.
 fn weight(value: Value) -> usize
@@ -44,12 +25,12 @@ fn weight(value: Value) -> usize
 fn index_of(values: &[Value], instance: &Instance) -> usize
     requires { Names (length values.now) instance.now }
 {
-    let centre = u32::from(values[instance.centre as usize]) as usize;
-    let successor = u32::from(values[instance.successor as usize]) as usize;
+    let centre = usize::from(values[usize::from(instance.centre)]);
+    let successor = usize::from(values[usize::from(instance.successor)]);
     let mut index = centre * 243 + successor;
     // no `map` and `sum`: their closure would not know that each class it gets has a value
     for class in &instance.neighbours {
-        index += weight(values[*class as usize]);
+        index += weight(values[usize::from(*class)]);
     }
     index
 }
@@ -70,13 +51,13 @@ impl Known {
         requires { Names (vec_len self.old.values) instance.now }
         ensures { Grown self.old self.new }
     {
-        if let Some(on) = said(code, CENTRE_OFF, CENTRE_ON) {
+        if let Some(on) = CENTRE.said(code) {
             self.set(instance.centre, on);
         }
-        if let Some(on) = said(code, SUCCESSOR_OFF, SUCCESSOR_ON) {
+        if let Some(on) = SUCCESSOR.said(code) {
             self.set(instance.successor, on);
         }
-        if let Some(on) = said(code, NEIGHBOURS_OFF, NEIGHBOURS_ON) {
+        if let Some(on) = NEIGHBOURS.said(code) {
             self.set_neighbours(instance, on);
         }
     }

@@ -27,8 +27,9 @@ impl Known {
         requires { class < vec_len self.old.values }
         ensures { Grown self.old self.new }
     {
-        if matches!(self.values[class as usize], Value::Unknown) {
-            self.values[class as usize] = Value::from(on);
+        let value = &mut self.values[usize::from(class)];
+        if *value == Value::Unknown {
+            *value = Value::from(on);
             self.trail.push_reserved(class);
         }
     }
@@ -47,7 +48,7 @@ impl Known {
         } = self;
         let kept = mark.min(trail.len());
         for class in &trail[kept..] {
-            values[*class as usize] = Value::Unknown;
+            values[usize::from(*class)] = Value::Unknown;
         }
         trail.truncate(kept);
         *settled = (*settled).min(mark);

@@ -11,7 +11,7 @@ impl Board {
     pub fn value(&self, class: u16) -> Value {
         self.known
             .values
-            .get(class as usize)
+            .get(usize::from(class))
             .copied()
             .unwrap_or(Value::Off)
     }
@@ -28,7 +28,7 @@ impl Board {
         ensures kept { Kept self.old self.new }
         ensures longer { trail_len self.old ≤ trail_len self.new }
     {
-        if (class as usize) < self.known.values.len() {
+        if usize::from(class) < self.known.values.len() {
             self.known.set(class, on);
         }
     }
@@ -54,7 +54,7 @@ impl Board {
         } = self;
         let instances = system.instances();
         for number in system.touching(class) {
-            known.examine(table, &instances[*number as usize])?;
+            known.examine(table, &instances[usize::from(*number)])?;
         }
         Ok(())
     }
@@ -65,6 +65,7 @@ impl Board {
         ensures kept { Kept self.old self.new }
         ensures longer { trail_len self.old ≤ trail_len self.new }
     {
+        // the trail grows while it is gone through, so no iterator
         while let Some(class) = self.known.trail.get(self.known.settled).copied() {
             self.examine_around(class)?;
             self.known.settled += 1;
