@@ -1,4 +1,4 @@
-// A surface and an order that are chosen at run time, by name.
+// Orders that are chosen at run time. The plane that is chosen so is `planes::Surface`, handed on.
 #![tactic(auto)]
 
 mod any_order;

@@ -1,7 +1,7 @@
 -- A line's length, and what is left of a line without blanks, as functions of its bytes compute them.
-use Rattle.std.proofs.Common.{◌≡◌, ℕ, zero, suc, ◌+◌, ◌-◌, ◌<◌, ◌≤◌, List, [], ◌∷◌, length, get_or, take, drop, eqb, sym, refl, ap, ◌∙◌, ⊎_elim, length-drop, arith}
+use Rattle.std.proofs.Common.{◌≡◌, ℕ, zero, suc, ◌+◌, ◌-◌, ◌<◌, ◌≤◌, List, [], ◌∷◌, length, get_or, take, drop, eqb, ◌≢◌, slice_index, sym, refl, ap, subst, ◌∙◌, ⊎_elim, length-drop, arith}
 use Rattle.std.proofs.lemmas.List.{drop_all, get_or-drop}
-use Rattle.std.proofs.lemmas.Bool.{cases_Bool, cond-false, cond-true, eq-eqb, ne_eqb}
+use Rattle.std.proofs.lemmas.Bool.{cases_Bool, cases_lt, cond-false, cond-true, eq-eqb, eqb-false, eqb-true, ne_eqb}
 use Rattle.lines.specs.Ends.{LineEnd, Trimmed}
 use Rattle.lines.specs.Lines.{blank, line_length, kept_before, trimmed}
 
@@ -68,3 +68,41 @@ line_within (b ∷ bs) =
     (λ e. rw e (omega arith))
     (λ e. rw e (omega (arith, line_within bs)))
     (cases_Bool (eqb b 10))
+
+-- no newline stands before the end of a line whose first byte is none
+pub none_before : (b : ℕ) (bs : List ℕ) (n : ℕ) → b ≢ 10 → LineEnd bs 0 n → (k : ℕ) → k < suc n → slice_index (b ∷ bs) k ≢ 10
+none_before b bs n other rest zero below = other
+none_before b bs n other rest (suc k) below = rest.none k (omega arith) (omega arith)
+
+-- the length of a line is its end
+pub line_ends : (t : List ℕ) → LineEnd t 0 (line_length t)
+unfolding line_length
+line_ends [] = record {
+  on = omega arith;
+  within = λ h. omega arith;
+  none = λ k low high. absurd (omega arith);
+  stops = λ h. absurd (omega arith);
+}
+line_ends (b ∷ bs) =
+    ⊎_elim
+    (λ e. rw e (record {
+      on = omega arith;
+      within = λ h. omega arith;
+      none = λ k low high. absurd (omega arith);
+      stops = λ h. eqb-true b 10 e;
+    }))
+    (λ e. rw e (record {
+      on = omega arith;
+      within = λ h. omega (arith, (line_ends bs).within);
+      none = λ k low high. none_before b bs (line_length bs) (eqb-false b 10 e) (line_ends bs) k high;
+      stops = λ h. (line_ends bs).stops (omega arith);
+    }))
+    (cases_Bool (eqb b 10))
+
+-- the same from a place on
+pub ends_from : (t : List ℕ) (at : ℕ) → LineEnd t at (at + line_length (drop at t))
+ends_from t at =
+    ⊎_elim
+    (λ past. let p = line_past t at past in subst (λ n. LineEnd t at n) (omega (arith, p.1)) p.0)
+    (λ low. line_from t at (line_length (drop at t)) low (line_ends (drop at t)))
+    (cases_lt (length t) at)

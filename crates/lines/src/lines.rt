@@ -27,10 +27,7 @@ pub fn line_end(text: &[u8], at: usize) -> usize
     ensures within { at ≤ length text.now → result ≤ length text.now }
     ensures ends { LineEnd text.now at result }
 {
-    match text.get(at..) {
-        Some(rest) => at + line_len(rest),
-        None => at,
-    }
+    text.get(at..).map_or(at, |rest| at + line_len(rest))
 }
 
 // How much of a line is left without the blanks at its end.

@@ -1,4 +1,4 @@
-// Decimal numbers: one writer and one reader, over every u64.
+// Decimal numbers over every u64: written by the library's digits, read without leading zeros.
 #![tactic(auto)]
 
 mod reading;

@@ -17,10 +17,7 @@ pub fn read_decimal(digits: &[u8]) -> Option<u64>
     ensures { Reads digits.now result }
 {
     // `parse` takes a plus and leading zeros too
-    if let [b'+', ..] = digits {
-        return None;
-    }
-    if let [b'0', _, ..] = digits {
+    if let [b'+', ..] | [b'0', _, ..] = digits {
         return None;
     }
     str::from_utf8(digits).ok()?.parse().ok()

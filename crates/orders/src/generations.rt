@@ -4,7 +4,7 @@ use crate::order::Order;
 use frames::Frame;
 
 // By generation, row and column: the rank of a cell is its number.
-#[derive(Clone, Copy)]
+#[derive(Clone, Copy, PartialEq, Eq, Debug)]
 pub struct Generations;
 
 impl Order for Generations {

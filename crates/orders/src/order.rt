@@ -5,7 +5,8 @@ ghost use Rattle.orders.specs.Orders.{bounded};
 
 use frames::Frame;
 
-// An order of the cells: each has a rank, and each rank a cell, all below the number of cells.
+// An order of the cells: each has a rank, and each rank a cell, all below the number of cells. Where
+// an order has none it answers the number of cells, as its callers are promised, and no `Option`.
 pub trait Order {
     ghost cell_of_rank: { Self → Frame → ℕ → ℕ };
 

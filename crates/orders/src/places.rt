@@ -5,7 +5,7 @@ use crate::order::Order;
 use frames::{Cell, Frame};
 
 // Place by place, all generations of one before the next: by row and column, or by column and row.
-#[derive(Clone, Copy, Default)]
+#[derive(Clone, Copy, Default, PartialEq, Eq, Debug)]
 pub struct Places<const BY_COLUMN: bool>;
 
 // By row, column and generation.
@@ -33,32 +33,23 @@ impl<const BY_COLUMN: bool> Order for Places<BY_COLUMN> {
             return cells;
         }
         let (place, t) = (rank / frame.period(), rank % frame.period());
-        let cell = if BY_COLUMN {
-            let height = frame.height();
-            Cell {
-                x: place / height,
-                y: place % height,
-                t,
-            }
+        let (x, y) = if BY_COLUMN {
+            (place / frame.height(), place % frame.height())
         } else {
-            let width = frame.width();
-            Cell {
-                x: place % width,
-                y: place / width,
-                t,
-            }
+            (place % frame.width(), place / frame.width())
         };
-        frame.number_of(cell).unwrap_or(cells)
+        frame.number_of(Cell { x, y, t }).unwrap_or(cells)
     }
 
     fn rank_of(&self, frame: &Frame, cell: u32) -> u32 {
         let Some(Cell { x, y, t }) = frame.cell_at(cell) else {
             return frame.cells();
         };
-        if BY_COLUMN {
-            (x * frame.height() + y) * frame.period() + t
+        let place = if BY_COLUMN {
+            x * frame.height() + y
         } else {
-            (y * frame.width() + x) * frame.period() + t
-        }
+            y * frame.width() + x
+        };
+        place * frame.period() + t
     }
 }

@@ -17,7 +17,8 @@ pub fn write_text(page: &mut [u8], at: usize, text: &[u8]) -> Result<usize, Page
     Ok(end)
 }
 
-// The same for a caller that goes on: where the bytes do not fit, the place stays.
+// The same for a caller that goes on: where the bytes do not fit, the place stays. This call and the
+// next could not fail and still cannot; `write_text` stands beside them and answers a refusal.
 pub fn put(page: &mut [u8], at: usize, bytes: &[u8]) -> usize
     ensures { PlacedIfFits page.old at bytes.now page.new result }
 {

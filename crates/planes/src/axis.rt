@@ -20,7 +20,7 @@ pub trait Axis {
 }
 
 // Nothing lies past the ends.
-#[derive(Clone, Copy, Default)]
+#[derive(Clone, Copy, Default, PartialEq, Eq, Debug)]
 pub struct Bounded;
 
 impl Axis for Bounded {
@@ -36,7 +36,7 @@ impl Axis for Bounded {
 }
 
 // The last place meets the first.
-#[derive(Clone, Copy, Default)]
+#[derive(Clone, Copy, Default, PartialEq, Eq, Debug)]
 pub struct Round;
 
 impl Axis for Round {
@@ -47,6 +47,7 @@ impl Axis for Round {
     ghost own = { λ a n i h. Prim.simp (mod-eq_of_lt h) };
 
     fn place(&self, c: i32, n: u32) -> Option<u32> {
+        // both casts are shown to fit
         Some(c.rem_euclid(n as i32) as u32)
     }
 }
@@ -58,6 +59,7 @@ pub enum Edge {
     Round,
 }
 
+// A match in each call: a choice at run time without `dyn` has no plainer form.
 impl Axis for Edge {
     ghost place = { edge_place };
 

@@ -33,9 +33,7 @@ impl<S: Space> Layer<S, Pins> {
         ensures refused { OnErr result (self.new ≡ self.old) }
     {
         let frame = self.below.frame();
-        let Some(cell) = frame.number_of(Cell { x, y, t }) else {
-            return Err(FixFault::NoCell);
-        };
+        let cell = frame.number_of(Cell { x, y, t }).ok_or(FixFault::NoCell)?;
         if self.own.tie_of(cell) != Tie::Free {
             return Err(FixFault::Held);
         }

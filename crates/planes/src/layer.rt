@@ -9,8 +9,11 @@ use crate::space::Space;
 use crate::tie::Tie;
 use frames::Frame;
 
+// No layer adds a row beyond these.
+const MOST_ROWS: u32 = 1000;
+
 // A space over another: it has the rows of the one below, then its own.
-#[derive(Clone, Copy, Drop)]
+#[derive(Clone, Copy, Drop, PartialEq, Eq, Debug)]
 pub struct Layer<S, R> {
     pub below: S,
     pub own: R,
@@ -38,7 +41,7 @@ impl<S: Space, R: Row> Space for Layer<S, R> {
     ghost tied = { λ l. layered (S.Space.count l.below) (S.Space.tied l.below) (R.asked l.own (S.Plane.means l.below).frame) };
 
     fn rows(&self) -> u32 {
-        (self.below.rows() + 1).min(1000)
+        (self.below.rows() + 1).min(MOST_ROWS)
     }
 
     fn tie(&self, row: u32, cell: u32) -> Tie {
@@ -46,7 +49,7 @@ impl<S: Space, R: Row> Space for Layer<S, R> {
         if row < rows {
             return self.below.tie(row, cell);
         }
-        if row > rows || row >= 1000 {
+        if row > rows || row >= MOST_ROWS {
             return Tie::Free;
         }
         self.own.asks(&self.below.frame(), cell)

@@ -48,11 +48,12 @@ impl From<u8> for MirrorKind {
 
 impl MirrorKind {
     // The image of a place, wherever it lies; none left of the box.
-    fn image(self, frame: &Frame, x: u32, y: u32) -> Option<Place>
-        requires column { x < frame.now.width }
-        requires row { y < frame.now.height }
-        ensures { result ≡ turned frame.now self x y }
+    fn image(self, frame: &Frame, place: Place) -> Option<Place>
+        requires column { place.x < frame.now.width }
+        requires row { place.y < frame.now.height }
+        ensures { result ≡ turned frame.now self place.x place.y }
     {
+        let Place { x, y } = place;
         let right = frame.width() - 1;
         let bottom = frame.height() - 1;
         let (x, y) = match self {
@@ -79,7 +80,7 @@ impl Row for MirrorKind {
         if *self == MirrorKind::Untied {
             return Tie::Free;
         }
-        let image = self.image(frame, x, y);
+        let image = self.image(frame, Place { x, y });
         image
             .and_then(|Place { x, y }| frame.number_of(Cell { x, y, t }))
             .map_or(Tie::Off, Tie::Same)

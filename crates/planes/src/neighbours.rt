@@ -1,5 +1,5 @@
 // Where a neighbour lies, from its centre.
-#[derive(Clone, Copy)]
+#[derive(Clone, Copy, PartialEq, Eq, Debug)]
 pub struct Offset {
     pub dx: i32,
     pub dy: i32,

@@ -9,7 +9,7 @@ use arrayvec::ArrayVec;
 use frames::Frame;
 
 // A cell that has to be on or off, by its number.
-#[derive(Clone, Copy, Default)]
+#[derive(Clone, Copy, Default, PartialEq, Eq, Debug)]
 pub struct Pin {
     pub cell: u32,
     pub on: bool,

@@ -27,16 +27,26 @@ pub type Torus = Sheet<Round, Round>;
 // Columns go round; nothing lies above or below the box.
 pub type Cylinder = Sheet<Round, Bounded>;
 
-impl<X: Axis + Default, Y: Axis + Default> Sheet<X, Y> {
-    pub fn new(frame: Frame) -> Sheet<X, Y>
-        ensures { result.frame ≡ frame }
+impl<X, Y> Sheet<X, Y> {
+    // A box over two axes.
+    pub(crate) fn over(frame: Frame, columns: X, rows: Y) -> Sheet<X, Y>
+        ensures frame { result.frame ≡ frame }
+        ensures columns { result.columns ≡ columns }
+        ensures rows { result.rows ≡ rows }
     {
-        let (columns, rows) = (X::default(), Y::default());
         Sheet {
             frame,
             columns,
             rows,
         }
+    }
+}
+
+impl<X: Axis + Default, Y: Axis + Default> Sheet<X, Y> {
+    pub fn new(frame: Frame) -> Sheet<X, Y>
+        ensures { result.frame ≡ frame }
+    {
+        Sheet::over(frame, X::default(), Y::default())
     }
 }
 

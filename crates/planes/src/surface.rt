@@ -14,35 +14,20 @@ impl Sheet<Edge, Edge> {
     pub fn plain(frame: Frame) -> Surface
         ensures { ⟦<Surface as Plane>⟧.means result ≡ plain frame }
     {
-        let (columns, rows) = (Edge::Bounded, Edge::Bounded);
-        Sheet {
-            frame,
-            columns,
-            rows,
-        }
+        Sheet::over(frame, Edge::Bounded, Edge::Bounded)
     }
 
     // Looks as `Torus`.
     pub fn torus(frame: Frame) -> Surface
         ensures { ⟦<Surface as Plane>⟧.means result ≡ torus frame }
     {
-        let (columns, rows) = (Edge::Round, Edge::Round);
-        Sheet {
-            frame,
-            columns,
-            rows,
-        }
+        Sheet::over(frame, Edge::Round, Edge::Round)
     }
 
     // Looks as `Cylinder`.
     pub fn cylinder(frame: Frame) -> Surface
         ensures { ⟦<Surface as Plane>⟧.means result ≡ cylinder frame }
     {
-        let (columns, rows) = (Edge::Round, Edge::Bounded);
-        Sheet {
-            frame,
-            columns,
-            rows,
-        }
+        Sheet::over(frame, Edge::Round, Edge::Bounded)
     }
 }

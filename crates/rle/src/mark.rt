@@ -21,7 +21,7 @@ impl TryFrom<u8> for Mark {
     ghost try_from_gives = { λ byte r. r ≡ ok_or (mark_of byte) Byte };
 
     fn try_from(byte: u8) -> Result<Mark, ReadCause> {
-        // by char literals, so that the letters stand here as they stand in a text
+        // by char literals: the form that this project fixes for marks
         match byte as char {
             'b' => Ok(Mark::Off),
             'o' => Ok(Mark::On),

@@ -12,7 +12,8 @@ struct Digits<'a> {
     rest: &'a [u8],
 }
 
-// The longest row of rising digits from 0 to 8 at the front of a text.
+// The longest row of rising digits from 0 to 8 at the front of a text. What a digit has to be
+// depends on the one before it, so no `take_while` says it.
 fn rising_digits(text: &[u8]) -> Digits<'_>
     ensures few { result.set < 512 }
     ensures row { rising 0 0 text.now ≡ record { set = result.set; rest = result.rest.now } }
@@ -89,6 +90,7 @@ impl Rule {
     }
 }
 
+// Beside `parse`, the name that the calls have: `?` and generic code take this form.
 impl TryFrom<&[u8]> for Rule {
     type Error = RuleFault;
 

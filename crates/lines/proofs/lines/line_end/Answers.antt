@@ -1,17 +1,19 @@
-use Rattle.std.proofs.Common.{◌≡◌, drop, ◌∙◌, subst, arith}
+use Rattle.std.proofs.Common.{◌≡◌, ◌+◌, drop, rules, subst, sym}
 use Rattle.std.proofs.lemmas.List.{take_rest}
 use Rattle.lines.specs.Ends.{LineEnd}
-use Rattle.lines.proofs.Ends.{line_from, line_past}
+use Rattle.lines.specs.Lines.{line_length}
+use Rattle.lines.proofs.Ends.{ends_from, line_past}
 use Rattle.lines.proofs.lines.line_end.Goals as goal
 
-pub returns-in-Some-clause-ends : goal.returns-in-Some-clause-ends
-returns-in-Some-clause-ends c =
-    let text = c.args.text.now in
-    let found = c.in-Some.ensures.lookup.0 in
-    let rest : c.in-Some.rest.now ≡ drop c.args.at text = found.2 ∙ take_rest text c.args.at in
-    line_from text c.args.at c.line_len.result found.0 (subst (λ t. LineEnd t 0 c.line_len.result) rest c.line_len.ensures.ends)
+pub returns-clause-value : goal.returns-clause-value
+returns-clause-value c =
+    let past = line_past c.args.text.now c.args.at in
+    let rest = take_rest c.args.text.now c.args.at in
+    search rules
 
-pub returns-in-None-clause-value : goal.returns-in-None-clause-value
-returns-in-None-clause-value c =
-    let none = (line_past c.args.text.now c.args.at (omega (arith, c.in-None.ensures.lookup))).1 in
-    omega arith
+pub returns-clause-ends : goal.returns-clause-ends
+returns-clause-ends c =
+    let past = line_past c.args.text.now c.args.at in
+    let rest = take_rest c.args.text.now c.args.at in
+    let value : c.map_or.result ≡ c.args.at + line_length (drop c.args.at c.args.text.now) = search rules in
+    subst (λ end. LineEnd c.args.text.now c.args.at end) (sym value) (ends_from c.args.text.now c.args.at)

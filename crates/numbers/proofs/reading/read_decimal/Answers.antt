@@ -4,7 +4,7 @@ use Rattle.std.proofs.lemmas.List.{get_or_past}
 use Rattle.numbers.specs.Reading.{Reads}
 use Rattle.numbers.proofs.Rows.{never_plus, never_zero_first, never_other, parsed_reads}
 use Rattle.numbers.proofs.reading.read_decimal.Goals as goal
-use Rattle.numbers.proofs.reading.read_decimal.Goals.{then-digits-lt1, else-digits-lt1+in_default-1, then-digits-lt2, else-digits-lt2+in_default-1}
+use Rattle.numbers.proofs.reading.read_decimal.Goals.{then-digits-lt1, else-digits-lt1+then-digits-lt2+in_default-1, else-digits-lt1+else-digits-lt2+in_default-1}
 
 some : (bs : List ℕ) → get_or bs 0 0 ≡ 48 → 1 ≤ length bs
 some [] e = absurd (omega arith)
@@ -13,8 +13,11 @@ some (b ∷ bs) e = omega arith
 pub returns-in-43 : goal.returns-in-43
 returns-in-43 c = never_plus c.args.digits.now (omega arith)
 
-pub returns-in-48 : goal.returns-in-48
-returns-in-48 c = never_zero_first c.args.digits.now (omega arith) (omega arith)
+pub returns-in-43-2 : goal.returns-in-43-2
+returns-in-43-2 c = never_plus c.args.digits.now (omega arith)
+
+pub returns-in-43-3 : goal.returns-in-43-3
+returns-in-43-3 c = never_zero_first c.args.digits.now (omega arith) (omega arith)
 
 pub returns-in_err-ok : goal.returns-in_err-ok
 returns-in_err-ok c =
@@ -28,12 +31,14 @@ returns c =
     let plus : get_or bs 0 0 ≡ 43 → ⊥ = λ e.
     elim c.if-digits-lt1.branch [
       | then-digits-lt1 w ↦ let short : length bs < 1 = search rules in omega (arith, get_or_past bs 0 0)
-      | else-digits-lt1+in_default-1 w ↦ omega (arith, get_or_past bs 0 0)
+      | else-digits-lt1+then-digits-lt2+in_default-1 w ↦ omega (arith, get_or_past bs 0 0)
+      | else-digits-lt1+else-digits-lt2+in_default-1 w ↦ omega (arith, get_or_past bs 0 0)
     ] in
     let single : get_or bs 0 0 ≡ 48 → length bs ≡ 1 = λ e.
-    elim c.if-digits-lt2.branch [
-      | then-digits-lt2 w ↦ let short : length bs < 2 = search rules in omega (arith, some bs e)
-      | else-digits-lt2+in_default-1 w ↦ omega (arith, get_or_past bs 0 0)
+    elim c.if-digits-lt1.branch [
+      | then-digits-lt1 w ↦ let short : length bs < 1 = search rules in omega (arith, some bs e)
+      | else-digits-lt1+then-digits-lt2+in_default-1 w ↦ let short : length bs < 2 = search rules in omega (arith, some bs e)
+      | else-digits-lt1+else-digits-lt2+in_default-1 w ↦ omega (arith, get_or_past bs 0 0)
     ] in
     let same : text ≡ bs = search rules in
     parsed_reads bs c.parse.result c.ok-2.result plus single (subst (λ t. ParsesUnsigned 64 10 t c.parse.result) same c.parse.ensures.value.0) c.ok-2.ensures.value
