@@ -3,7 +3,7 @@
 
 usage: python3 tools/places.py [-v] [TREE]      TREE: the top of a checkout, by default the folder that this is run in
 
-Each line is a point of that page, a search and how many places it finds; -v lists them. Tests are left out where it says so.
+Each line is a point of that page, a search and how many places it finds; -v lists them. Files named tests.rt are left out.
 """
 import collections
 import glob

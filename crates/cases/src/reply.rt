@@ -36,13 +36,12 @@ pub enum CallFault {
 
 impl From<OpenFault> for CallFault {
     fn from(fault: OpenFault) -> CallFault {
-        match fault.number() {
-            Some(number) => CallFault::Refused(number),
-            None => CallFault::Memory,
-        }
+        fault.number().map_or(CallFault::Memory, CallFault::Refused)
     }
 }
 
+// This one and the next two are alike: a trait over `number()` would have three impls just as long, and
+// the blanket `From` over it besides.
 impl From<GoFault> for CallFault {
     fn from(fault: GoFault) -> CallFault {
         CallFault::Refused(fault.number())

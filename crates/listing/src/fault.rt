@@ -24,6 +24,7 @@ pub enum ListFault {
     Endless,
 }
 
+// Each `From` is written out and not derived by thiserror, so that a clause knows which case `?` gives.
 impl From<GoFault> for ListFault {
     ghost from_gives = { λ go fault. fault ≡ listing.Go go };
 

@@ -3,7 +3,8 @@ use crate::sink::{Closed, Sink};
 use printing::write_found;
 use search::{Answer, Search};
 
-// Room for the longest text of a find: 32 rows of 32 cells that take turns, and the heading.
+// Holds every text of a find: 32 rows of 32 cells that take turns and the heading are 1,101 bytes, as
+// docs/FORMATS.md reckons. That is not proved: the room in which `texts` puts it together is larger.
 pub const PAGE_SIZE: usize = 2048;
 
 // How many steps are taken before the sink may pass on what it holds.
@@ -11,12 +12,12 @@ const STRIDE: u32 = 20_000;
 
 // The steps that are left before the next rest, which is taken when there are none.
 fn rested<S: Sink>(left: u32, taken: u32, sink: &mut S) -> Result<u32, Closed> {
-    match left.checked_sub(taken) {
-        None | Some(0) => {
+    match left.saturating_sub(taken) {
+        0 => {
             sink.rest()?;
             Ok(STRIDE)
         }
-        Some(left) => Ok(left),
+        left => Ok(left),
     }
 }
 

@@ -12,6 +12,7 @@ use Rattle.rle.specs.Scans.{Scan, good, bad}
 use Rattle.rle.specs.Spots.{spot_before}
 use Rattle.rle.specs.declared.fault.ReadCause.{ReadCause}
 use Rattle.reader.specs.declared.item.Heading.{Heading}
+use Rattle.reader.specs.declared.item.Tail.{Tail}
 use Rattle.reader.specs.declared.reader.Reader.{Reader}
 use Rattle.reader.specs.Left.{Scanned}
 
@@ -39,6 +40,14 @@ retold tell (bad cause rest) = bad cause rest
 -- a heading that starts in a line is read as a definition says
 abbrev pub Headed : (List ℕ → Scan Head) → List ℕ → Reader → Reader → Result Heading ReadCause → Type 0
 Headed scan line old new r = Scanned shown_heading (λ t. retold (told_head old.text.now line) (scan t)) old new r
+
+-- a heading that starts in a line, with what was handed out after its sizes
+abbrev pub shown_tail : List ℕ → ℕ → ℕ → Tail → HeadShown
+shown_tail line w h t = record { line = line; width = w; height = h; rule = option_map (λ s. s.now) t.rule; column = t.rule_column }
+
+-- what follows the sizes of a heading is read as a definition says, whatever its line and its sizes
+abbrev pub Tailed : (ℕ → ℕ → List ℕ → Scan Head) → Reader → Reader → Result Tail ReadCause → Type 0
+Tailed scan old new r = (line : List ℕ) (w h : ℕ) → Scanned (shown_tail line w h) (λ t. retold (told_head old.text.now line) (scan w h t)) old new r
 
 -- an item without references
 pub data Shown : Type 0 where

@@ -1,12 +1,12 @@
 ghost use Rattle.lines.specs.Lines.{blank, first_line};
 ghost use Rattle.reader.specs.Left.{left, size_after, whole_line, Read, Scanned};
-ghost use Rattle.reader.specs.Shown.{Headed};
+ghost use Rattle.reader.specs.Shown.{Headed, Tailed};
 ghost use Rattle.rle.specs.Items.{heading, tailed, ruled, unruled, before_rule};
 ghost use Rattle.rle.specs.Scans.{and_then, in_turn, past};
 ghost use Rattle.std.specs.Prelude.{◌≡◌};
 
 use crate::gap::Gap;
-use crate::item::Heading;
+use crate::item::{Heading, Tail};
 use crate::reader::Reader;
 use crate::steps::{BEFORE_HEIGHT, BEFORE_RULE, BEFORE_WIDTH};
 use lines::{line_end, trimmed_len};
@@ -32,42 +32,40 @@ impl<'a> Reader<'a> {
         Ok(line)
     }
 
-    // The rule that a heading names; `bare` has what came before it.
-    fn ruled(&mut self, bare: Heading<'a>) -> Result<Heading<'a>, ReadCause>
-        ensures { Headed (λ t. and_then (in_turn before_rule t) (λ _ rest. ruled bare.entry.width bare.entry.height rest)) bare.entry.line.now self.old self.new result }
+    // The rule that a heading names.
+    fn ruled(&mut self) -> Result<Tail<'a>, ReadCause>
+        ensures { Tailed (λ w h t. and_then (in_turn before_rule t) (λ _ rest. ruled w h rest)) self.old self.new result }
     {
         self.in_turn(&BEFORE_RULE)?;
         let rule_column = self.column;
         let rest = self.line()?;
         let len = trimmed_len(rest);
-        Ok(Heading {
+        Ok(Tail {
             rule: Some(&rest[..len]),
             rule_column,
-            ..bare
         })
     }
 
     // No rule is named, and the line ends.
-    fn unruled(&mut self, bare: Heading<'a>) -> Result<Heading<'a>, ReadCause>
-        ensures { Headed (λ t. unruled bare.entry.width bare.entry.height (past blank t)) bare.entry.line.now self.old self.new result }
+    fn unruled(&mut self) -> Result<Tail<'a>, ReadCause>
+        ensures { Tailed (λ w h t. unruled w h (past blank t)) self.old self.new result }
     {
         self.skip(Gap::Blanks);
         let rule_column = self.column;
         self.this_byte(b'\n')?;
-        Ok(Heading {
+        Ok(Tail {
             rule: None,
             rule_column,
-            ..bare
         })
     }
 
     // What follows the height.
-    fn tailed(&mut self, bare: Heading<'a>) -> Result<Heading<'a>, ReadCause>
-        ensures { Headed (tailed bare.entry.width bare.entry.height) bare.entry.line.now self.old self.new result }
+    fn tailed(&mut self) -> Result<Tail<'a>, ReadCause>
+        ensures { Tailed tailed self.old self.new result }
     {
         match self.next_byte()? {
-            b',' => self.ruled(bare),
-            _ => self.unruled(bare),
+            b',' => self.ruled(),
+            _ => self.unruled(),
         }
     }
 
@@ -87,12 +85,12 @@ impl<'a> Reader<'a> {
         let line = self.line_here();
         let width = self.size_after(&BEFORE_WIDTH)?;
         let height = self.size_after(&BEFORE_HEIGHT)?;
-        let rule_column = self.column;
-        self.tailed(Heading {
+        let Tail { rule, rule_column } = self.tailed()?;
+        Ok(Heading {
             line,
             width,
             height,
-            rule: None,
+            rule,
             rule_column,
         })
     }

@@ -13,6 +13,13 @@ pub struct Heading<'a> {
     pub rule_column: u32,
 }
 
+// What a heading tells after the height.
+#[derive(Clone, Copy)]
+pub(crate) struct Tail<'a> {
+    pub rule: Option<&'a [u8]>,
+    pub rule_column: u32,
+}
+
 // A part of a text; remarks and headings are lent from it.
 #[derive(Clone, Copy, PartialEq, Eq, Debug)]
 pub enum Item<'a> {
@@ -23,7 +30,8 @@ pub enum Item<'a> {
     End,
 }
 
-// An item and where it starts: line and column, both from 1.
+// An item and where it starts: line and column, both from 1. They stand flat here as in `ReadFault`,
+// since both are public and callers read the fields.
 #[derive(Clone, Copy, PartialEq, Eq, Debug)]
 pub struct Located<'a> {
     pub line: u32,

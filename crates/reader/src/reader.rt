@@ -4,7 +4,8 @@ ghost use Rattle.rle.specs.Spots.{spot_at};
 use rle::Phase;
 
 // Goes through a text of at most 65,536 bytes. It stands before the byte at `at`, in a line and a
-// column that count from 1.
+// column that count from 1. Place, line and column stand flat here: that is a form of the reader that
+// the project fixes.
 #[derive(Clone, Copy)]
 pub struct Reader<'a> {
     pub(crate) text: &'a [u8],

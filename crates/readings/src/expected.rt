@@ -62,14 +62,11 @@ fn refusal_of(line: &str) -> Option<Refusal> {
 
 // The verdict that a line tells, so far as the reader decides it.
 fn verdict_of(line: &str) -> Verdict {
-    match refusal_of(line) {
-        Some(refusal) => match refusal.number {
-            18..=22 => Verdict::Refused(refusal),
-            5 | 6 => Verdict::RuleAt(refusal.place),
-            _ => Verdict::Read,
-        },
-        None => Verdict::Read,
-    }
+    refusal_of(line).map_or(Verdict::Read, |refusal| match refusal.number {
+        18..=22 => Verdict::Refused(refusal),
+        5 | 6 => Verdict::RuleAt(refusal.place),
+        _ => Verdict::Read,
+    })
 }
 
 pub fn expected_of(line: &str) -> Expected<'_> {
