@@ -1,4 +1,5 @@
 use crate::reply::{CallFault, Reply};
+use numbers::read_decimal;
 use problem::{Problem, read_problem};
 use search::Search;
 use std::alloc::{AllocError, Global};
@@ -30,7 +31,7 @@ struct Caller<'a> {
 
 // The number that follows the name of a call.
 fn number_after(line: &str, name: &str) -> Option<u64> {
-    line.strip_prefix(name)?.parse().ok()
+    read_decimal(line.strip_prefix(name)?.as_bytes())
 }
 
 impl<'a> Caller<'a> {
@@ -106,6 +107,7 @@ fn calls_agree(
     let mut called = Called::Opened;
     let mut expected = answers.lines().map(|line| line.trim_end());
     for line in calls {
+        let line = line.trim_end();
         match line {
             "blank" => called = Called::Blank,
             "opened" => called = Called::Opened,
@@ -132,10 +134,14 @@ pub fn script_agrees(heap: Global, script: &str, answers: &str) -> Result<bool, 
         return Ok(false);
     };
     let mut calls = calls.lines();
-    let Some(size) = calls.next().and_then(|line| line.parse::<usize>().ok()) else {
+    let size = calls
+        .next()
+        .and_then(|line| read_decimal(line.trim_end().as_bytes()));
+    let Some(size) = size else {
         return Ok(false);
     };
-    let mut page = vec![in heap; b'.'; size]?;
+    // no From takes a u64 to a usize, which are alike here
+    let mut page = vec![in heap; b'.'; size as usize]?;
     let mut opened = Caller::new(heap, &problem);
     match opened.open() {
         Ok(_) => calls_agree(opened, calls, page.as_mut_slice(), answers),

@@ -1,4 +1,4 @@
-ghost use Rattle.std.specs.Prelude.{◌≡◌, ◌+◌, ◌<◌, ◌≤◌, MatchOption};
+ghost use Rattle.std.specs.Prelude.{◌≡◌, ◌+◌, ◌<◌, ◌≤◌, MatchOption, OnSome};
 ghost use Rattle.codes.specs.Codes.{code, is_unknown};
 ghost use Rattle.codes.specs.Laws.{CodeLaw};
 ghost use Rattle.codes.specs.Parts.{said_of};
@@ -45,7 +45,8 @@ impl Value {
 impl Descriptor {
     // A descriptor, unless it would have more than 8 neighbours.
     pub fn new(centre: Value, on: u32, unknown: u32, successor: Value) -> Option<Descriptor>
-        ensures { MatchOption result (¬ (on + unknown ≤ 8)) (λ d. d ≡ record { centre = centre; on = on; unknown = unknown; successor = successor }) }
+        ensures parts { MatchOption result (¬ (on + unknown ≤ 8)) (λ d. d ≡ record { centre = centre; on = on; unknown = unknown; successor = successor }) }
+        ensures few { OnSome result (on + unknown ≤ 8) }
     {
         if on > 8 || unknown > 8 - on {
             return None;
@@ -62,6 +63,7 @@ impl Descriptor {
     pub fn index(&self) -> usize
         ensures index { result ≡ index self.now }
         ensures below { result < 729 }
+        ensures few { self.now.on + self.now.unknown ≤ 8 }
     {
         // no From takes a u32, which the counts are, to a usize
         let centre = u32::from(self.centre);

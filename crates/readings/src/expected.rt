@@ -45,7 +45,7 @@ pub struct Expected<'a> {
 }
 
 // The refusal that a line tells: the file, eight words on the space and the rule, `refused`, and a
-// number and a place. None where there is no refusal, or one without a line and a column.
+// number and a place; a line or column that is not told is 0, where no fault stands.
 fn refusal_of(line: &str) -> Option<Refusal> {
     let mut numbers = line
         .split(' ')
@@ -54,8 +54,8 @@ fn refusal_of(line: &str) -> Option<Refusal> {
     Some(Refusal {
         number: numbers.next()?,
         place: Place {
-            line: numbers.next()?,
-            column: numbers.next()?,
+            line: numbers.next().unwrap_or(0),
+            column: numbers.next().unwrap_or(0),
         },
     })
 }

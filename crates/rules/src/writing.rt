@@ -30,6 +30,7 @@ impl RuleText {
     pub fn as_slice(&self) -> &[u8]
         ensures bytes { result.now ≡ self.now.text.bytes }
         ensures len { length result.now ≡ length self.now.text.bytes }
+        ensures fits { length result.now ≤ 21 }
     {
         self.as_str().as_bytes()
     }
