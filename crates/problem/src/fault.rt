@@ -7,7 +7,7 @@ use planes::FixFault;
 use rules::RuleFault;
 
 // Why a line of a problem is refused. What a lower layer refuses is carried whole.
-#[derive(Clone, Copy)]
+#[derive(Clone, Copy, PartialEq, Eq, Debug)]
 pub enum Cause {
     // over 65,536 bytes
     TooLong,
@@ -19,7 +19,7 @@ pub enum Cause {
 }
 
 // A refusal and the line that it stands at, from 1.
-#[derive(Clone, Copy)]
+#[derive(Clone, Copy, PartialEq, Eq, Debug)]
 pub struct ProblemFault {
     pub line: u32,
     pub cause: Cause,

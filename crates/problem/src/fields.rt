@@ -20,10 +20,10 @@ pub(crate) fn value_of<'a>(line: Option<&'a [u8]>, key: &[u8]) -> Result<&'a [u8
 pub(crate) fn number(word: &[u8]) -> Result<u16, Cause>
     ensures { IfErr result OfLine }
 {
-    match read_decimal(word) {
-        Some(n) if n <= 9999 => Ok(n as u16),
-        _ => Err(Cause::Form),
-    }
+    read_decimal(word)
+        .and_then(|n| u16::try_from(n).ok())
+        .filter(|n| *n <= 9999)
+        .ok_or(Cause::Form)
 }
 
 // The same, with `-` before it where it is below 0.
@@ -45,8 +45,8 @@ pub(crate) fn numbers<const N: usize>(text: &[u8]) -> Result<[i32; N], Cause>
 {
     let mut words = text.split(|byte| is_blank(*byte));
     let mut numbers = [0; N];
-    for number in &mut numbers {
-        *number = signed(words.next().ok_or(Cause::Form)?)?;
+    for place in &mut numbers {
+        *place = signed(words.next().ok_or(Cause::Form)?)?;
     }
     match words.next() {
         None => Ok(numbers),

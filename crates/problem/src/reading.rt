@@ -59,6 +59,7 @@ fn mirror_of(line: Option<&[u8]>) -> Result<MirrorKind, Cause>
     ensures { IfErr result OfLine }
 {
     match number(value_of(line, b"mirror")?)? {
+        // at most 6, so no bit is lost
         kind @ 0..=6 => Ok(MirrorKind::from(kind as u8)),
         _ => Err(Cause::Form),
     }
@@ -92,8 +93,8 @@ fn fix_all(space: &mut Fixed<Mirror<Surface>>, lines: Lines<'_>) -> Result<(), P
     requires { length lines.rest.now ≤ 65536 }
     ensures { IfErr result (Refuses 65541) }
 {
-    for (line, number) in lines.zip(6..) {
-        at_line(number, fix_by(space, line))?;
+    for (line, place) in lines.zip(6..) {
+        at_line(place, fix_by(space, line))?;
     }
     Ok(())
 }
