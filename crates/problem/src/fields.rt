@@ -1,4 +1,4 @@
-ghost use Rattle.std.specs.Prelude.{IfErr};
+ghost use Rattle.std.specs.Prelude.{◌≤◌, IfErr, MatchResult};
 ghost use Rattle.problem.specs.Faults.{OfLine};
 
 use crate::fault::Cause;
@@ -18,7 +18,7 @@ pub(crate) fn value_of<'a>(line: Option<&'a [u8]>, key: &[u8]) -> Result<&'a [u8
 
 // A number from 0 to 9,999, without leading zeros.
 pub(crate) fn number(word: &[u8]) -> Result<u16, Cause>
-    ensures { IfErr result OfLine }
+    ensures { MatchResult result (λ n. n ≤ 9999) OfLine }
 {
     read_decimal(word)
         .and_then(|n| u16::try_from(n).ok())

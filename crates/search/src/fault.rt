@@ -36,7 +36,7 @@ impl From<AllocError> for OpenFault {
     ghost from_gives = { λ _ fault. fault ≡ Memory };
 
     fn from(_e: AllocError) -> OpenFault {
-        OpenFault::Memory
+        Self::Memory
     }
 }
 
