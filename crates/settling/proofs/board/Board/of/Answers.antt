@@ -1,4 +1,4 @@
-use Rattle.std.proofs.Common.{vec_items, arith, rules}
+use Rattle.std.proofs.Common.{vec_items, arith}
 use Rattle.settling.proofs.Counted.{unknowns_le}
 use Rattle.settling.proofs.board.Board.of.Goals as goal
 

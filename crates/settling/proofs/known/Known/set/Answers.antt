@@ -1,4 +1,4 @@
-use Rattle.std.proofs.Common.{◌≡◌, ℕ, ◌+◌, ◌<◌, get_or, vec_items, vec_len, arith, rules}
+use Rattle.std.proofs.Common.{◌≡◌, ℕ, ◌<◌, get_or, vec_items, vec_len, arith, rules}
 use Rattle.codes.specs.declared.value.Value.TheVariants.{Unknown}
 use Rattle.settling.proofs.Counted.{set_known}
 use Rattle.classes.proofs.Places.{each_more}
