@@ -20,6 +20,7 @@ fn own_labels(heap: Global, cells: u32) -> Result<Vec<u16>, AllocError>
     requires { cells ≤ 4096 }
     ensures { IfOk result (λ v. v.items ≡ range_with_len 0 cells) }
 {
+    // shown to fit, here and at the number of free classes, so that nothing can fail
     (0..cells as u16).collect(heap)
 }
 
@@ -31,6 +32,7 @@ fn join_all<S: Space>(labels: &mut [u16], space: &S)
     ensures inside { TiesInside (surface (S.Plane.means space.now) (S.Space.count space.now) (S.Space.tied space.now)) }
 {
     for (cell, tie) in Ties::of(space) {
+        // no From takes a u32 to a usize
         join(labels, cell as usize, tie);
     }
 }

@@ -44,6 +44,7 @@ pub(crate) fn note_all<S: Space>(musts: &mut [Musts], labels: &[u16], space: &S)
     ensures value { musts.old ≡ replicate (length musts.old) unasked → musts.new ≡ asked_after (S.Space.tied space.now) (cells (S.Plane.means space.now).frame) labels.now (length musts.old) (S.Space.count space.now * cells (S.Plane.means space.now).frame) }
 {
     for (cell, tie) in Ties::of(space) {
+        // no From takes a u32 to a usize
         note(musts, labels[cell as usize], tie);
     }
 }

@@ -40,6 +40,7 @@ impl Numbering {
         ensures { OnOk result (self.new ≡ numbered_too self.old cell) }
     {
         self.lowest.reserve(1)?;
+        // shown to fit, so that nothing can fail
         self.labels.push(self.lowest.len() as u16)?;
         self.lowest.push_reserved(cell);
         Ok(())

@@ -35,6 +35,7 @@ pub(crate) fn join(labels: &mut [u16], cell: usize, tie: Tie)
     ensures lower { Lowered labels.old labels.new }
 {
     if let Tie::Same(other) = tie {
+        // no From takes a u32 to a usize
         unite(labels, cell, other as usize);
     }
 }
