@@ -1,4 +1,4 @@
-ghost use Rattle.std.specs.Prelude.{◌≡◌, [], OnErr};
+ghost use Rattle.std.specs.Prelude.{◌≡◌, ◌≤◌, [], length, OnOk, OnErr};
 ghost use Rattle.planes.specs.Pins.{holding, fixed_cell};
 
 use crate::fault::FixFault;
@@ -31,6 +31,7 @@ impl<S: Space> Layer<S, Pins> {
         ensures pins { holding self.new.own.held.items result ≡ fixed_cell (S.Plane.means self.old.below).frame self.old.own.held.items x y t on }
         ensures below { self.new.below ≡ self.old.below }
         ensures refused { OnErr result (self.new ≡ self.old) }
+        ensures few { OnOk result (length self.new.own.held.items ≤ 64) }
     {
         let frame = self.below.frame();
         let cell = frame.number_of(Cell { x, y, t }).ok_or(FixFault::NoCell)?;
