@@ -12,7 +12,8 @@ use crate::part::{CENTRE, NEIGHBOURS, Part, SUCCESSOR};
 use crate::value::Value;
 use rules::Rule;
 
-// The code of a descriptor that no filling of its unknown cells completes.
+// The code of a descriptor that no filling of its unknown cells completes. It is a number and no
+// enum, since it is an entry of the table.
 pub const CONTRADICTION: u8 = 1;
 
 impl Value {

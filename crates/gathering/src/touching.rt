@@ -19,6 +19,7 @@ fn touching(heap: Global, instances: &[Instance], class: u16) -> Result<Vec<u16>
     let mut numbers = Vec::new(heap);
     for (number, instance) in instances.iter().enumerate() {
         if touches(instance, class) {
+            // shown to fit, so that nothing can fail
             numbers.push(number as u16)?;
         }
     }

@@ -1,4 +1,5 @@
 -- The place of decisions, and that each step raises it.
+-- Some of these lemmas no proof cites yet; they stay, since nothing else says what they say.
 use Rattle.std.proofs.Common.{◌≡◌, ℕ, zero, suc, ◌+◌, ◌^◌, ◌<◌, ◌≤◌, true, false, List, [], ◌∷◌, ◌++◌, length, arith, pow_pos}
 use native.Mathlib.Nat.{two-pow-succ}
 use Rattle.histories.specs.Searches.{Decision, sets, Turns, last_off, later, index}

@@ -5,7 +5,8 @@ use crate::fault::PageFault;
 use itoa::Buffer;
 
 // Writes a text into the page from a place on, and answers the place after it. Where the text does not fit,
-// the page is as it was.
+// the page is as it was. Page and place are two parameters, here and in every call that writes: that
+// is what these calls are defined over.
 pub fn write_text(page: &mut [u8], at: usize, text: &[u8]) -> Result<usize, PageFault>
     ensures { Written page.old at text.now page.new result }
 {

@@ -4,7 +4,8 @@ ghost use Rattle.planes.specs.declared.axis.Edge.TheVariants.{Bounded, Round};
 ghost use Rattle.std.specs.Prelude.{◌≡◌, ℕ, ◌<◌, ◌≤◌, ℤ, pos, Some, Option, IfSome};
 ghost use Rattle.std.proofs.Common.{rules, mod-eq_of_lt};
 
-// What lies past the ends of a line of places, numbered from 0.
+// What lies past the ends of a line of places, numbered from 0. The crate does not hand it out: only
+// a sheet asks, over its own frame, whose lines have 1 to 32 places.
 pub trait Axis {
     ghost place: { Self → ℕ → ℤ → Option ℕ };
 

@@ -18,7 +18,7 @@ mod space;
 mod surface;
 mod tie;
 
-pub use axis::{Axis, Bounded, Edge, Round};
+pub use axis::{Bounded, Edge, Round};
 pub use fault::FixFault;
 pub use fixed::Fixed;
 pub use laws::{mirrors_stand, planes_stand};

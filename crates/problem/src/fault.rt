@@ -25,6 +25,7 @@ pub struct ProblemFault {
     pub cause: Cause,
 }
 
+// Each `From` is written out and not derived, so that a clause knows which case `?` gives.
 impl From<FrameFault> for Cause {
     ghost from_gives = { λ fault cause. cause ≡ Frame fault };
 

@@ -16,7 +16,8 @@ pub enum ReadCause {
     Ended,
 }
 
-// A fault and where it stands: line and column, both from 1.
+// A fault and where it stands: line and column, both from 1. These are flat, since they are public
+// and callers read them.
 #[derive(Clone, Copy, PartialEq, Eq, Debug)]
 pub struct ReadFault {
     pub line: u32,

@@ -32,6 +32,7 @@ impl OpenFault {
     }
 }
 
+// Written out and not derived, as the next one too, so that a clause knows which case `?` gives.
 impl From<AllocError> for OpenFault {
     ghost from_gives = { λ _ fault. fault ≡ Memory };
 

@@ -77,7 +77,7 @@ impl Record {
     }
 
     // One step: a turn on a contradiction or a told find, otherwise a choice. An untold find asks
-    // for neither.
+    // for neither. The record's own standing is matched in place: a form that the project fixes.
     pub(crate) fn step(&mut self) {
         match self.standing {
             Standing::Contradiction | Standing::Told => self.turn(),

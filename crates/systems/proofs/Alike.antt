@@ -1,4 +1,5 @@
 -- Systems with the same instances come to the same.
+-- Some of these lemmas no proof cites yet; they stay, since nothing else says what they say.
 use Rattle.std.proofs.Common.{◌≡◌, ℕ, ◌+◌, ◌<◌, Bool, false, cond, eqb, List, [], ◌∷◌, ◌++◌, length, get_or, sym, refl, ap, ◌∙◌, subst, ap₂, inl, inr, arith}
 use Rattle.std.proofs.lemmas.Bool.{cases_eq, eq-eqb, ne_eqb, cond-true, cond-false}
 use Rattle.codes.specs.declared.value.Value.{Value}

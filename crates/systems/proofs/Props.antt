@@ -1,4 +1,5 @@
 -- What settling comes to has one proof at most, so that a type can carry it, truncated, and give it back whole.
+-- Some of these lemmas no proof cites yet; they stay, since nothing else says what they say.
 use Rattle.std.proofs.Common.{ℕ, false, List, length, refl}
 use mathlib.Core.Bool.{Bool-set}
 use mathlib.Core.HLevel.{Discrete, hedberg, Π_prop, ¬_prop}

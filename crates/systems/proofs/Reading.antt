@@ -1,4 +1,5 @@
 -- How the code of an instance is read from a table, and what it says by masks.
+-- Some of these lemmas no proof cites yet; they stay, since nothing else says what they say.
 use Rattle.std.proofs.Common.{◌≡◌, ℕ, zero, suc, ◌+◌, ◌*◌, ◌<◌, ◌≤◌, Bool, true, false, not, eqb, List, [], ◌∷◌, length, get_or, take, refl, ap, ◌∙◌, arith}
 use lib.Bits.{bit_and}
 use Rattle.std.proofs.lemmas.List.{take_all}

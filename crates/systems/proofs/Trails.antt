@@ -1,4 +1,5 @@
 -- Settling with a trail: what was set can be put back, and an instance that names no class set since is quiet still.
+-- Some of these lemmas no proof cites yet; they stay, since nothing else says what they say.
 use Rattle.std.proofs.Common.{◌≡◌, ℕ, ◌<◌, Bool, true, false, ◌⊎◌, List, [], ◌∷◌, ◌++◌, length, set, sym, refl, ap, ◌∙◌, subst, inl, inr, append_assoc, append-nil, arith, length-set}
 use Rattle.std.proofs.lemmas.List.{same_from_push, length_push, set-set, set-get_or}
 use Rattle.std.proofs.lemmas.Bool.{cases_eq}
