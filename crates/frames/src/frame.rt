@@ -1,4 +1,4 @@
-ghost use Rattle.std.specs.Prelude.{◌*◌, ◌≤◌, pos, negsuc, ◌≤ℤ◌};
+ghost use Rattle.std.specs.Prelude.{◌≡◌, ◌*◌, ◌≤◌, pos, negsuc, ◌≤ℤ◌};
 
 // One cell of the box: a column, a row and a generation, each from 0.
 #[derive(Clone, Copy, PartialEq, Eq, Debug)]
@@ -28,4 +28,36 @@ pub struct Frame {
     ghost right: { dx ≤ℤ pos 8 },
     ghost up: { negsuc 7 ≤ℤ dy },
     ghost down: { dy ≤ℤ pos 8 },
+}
+
+impl Frame {
+    pub fn width(&self) -> u32
+        ensures { result ≡ self.now.width }
+    {
+        self.width
+    }
+
+    pub fn height(&self) -> u32
+        ensures { result ≡ self.now.height }
+    {
+        self.height
+    }
+
+    pub fn period(&self) -> u32
+        ensures { result ≡ self.now.period }
+    {
+        self.period
+    }
+
+    pub fn dx(&self) -> i32
+        ensures { result ≡ self.now.dx }
+    {
+        self.dx
+    }
+
+    pub fn dy(&self) -> i32
+        ensures { result ≡ self.now.dy }
+    {
+        self.dy
+    }
 }

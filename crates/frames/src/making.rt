@@ -39,41 +39,11 @@ impl Frame {
         })
     }
 
-    pub fn width(&self) -> u32
-        ensures { result ≡ self.now.width }
-    {
-        self.width
-    }
-
-    pub fn height(&self) -> u32
-        ensures { result ≡ self.now.height }
-    {
-        self.height
-    }
-
-    pub fn period(&self) -> u32
-        ensures { result ≡ self.now.period }
-    {
-        self.period
-    }
-
-    pub fn dx(&self) -> i32
-        ensures { result ≡ self.now.dx }
-    {
-        self.dx
-    }
-
-    pub fn dy(&self) -> i32
-        ensures { result ≡ self.now.dy }
-    {
-        self.dy
-    }
-
     // How many cells there are, in all generations.
     pub fn cells(&self) -> u32
         ensures { result ≡ cells self.now }
     {
-        self.width * self.height * self.period
+        self.places() * self.period
     }
 
     // How many places the box has: the cells of one generation.
