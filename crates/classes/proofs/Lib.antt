@@ -1,5 +1,6 @@
 pub mod Places
 pub mod United
+pub mod Worked
 pub mod Joining
 pub mod Numbered
 pub mod Asking

@@ -1,5 +1,6 @@
 pub mod Asked
 pub mod Classed
+pub mod Examples
 pub mod Joins
 pub mod Labels
 pub mod Needed

@@ -1,4 +1,5 @@
 ghost use Rattle.classes.specs.Classed.{ClassesStand};
+ghost use Rattle.classes.specs.Examples.{ClassesWorked};
 ghost use Rattle.classes.specs.Joins.{LabelsStand};
 ghost use Rattle.classes.specs.Needed.{MustsStand};
 
@@ -18,4 +19,9 @@ pub fn classes_stand()
 // cells.
 pub fn musts_stand()
     ensures { MustsStand }
+{}
+
+// The worked examples of classes stand.
+pub fn worked_classes_stand()
+    ensures { ClassesWorked }
 {}

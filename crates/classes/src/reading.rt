@@ -42,6 +42,13 @@ impl Classes {
         self.labels.get(cell).copied()
     }
 
+    // The lowest cell of a class; none where there is no such class.
+    pub fn lowest(&self, class: usize) -> Option<u16>
+        ensures { MatchOption result (vec_len self.now.lowest ≤ class) (λ cell. cell ≡ slice_index self.now.lowest.items class) }
+    {
+        self.lowest.get(class).copied()
+    }
+
     // What is asked of a class; nothing where there is no such class.
     pub fn musts(&self, class: usize) -> Musts
         ensures { result ≡ slice_index_or self.now.musts.items class unasked }

@@ -1,6 +1,6 @@
 -- The number of each value, and the value of each number.
-use Rattle.std.specs.Prelude.{ℕ, ◌<◌, Bool, true, cond, not, ◌==◌, Result}
-use Rattle.std.specs.Result.{OkIff}
+use Rattle.std.specs.Prelude.{◌≡◌, ℕ, ◌<◌, ◌≤◌, Bool, true, cond, not, ◌==◌, Result}
+use Rattle.std.specs.Result.{MatchResult}
 use Rattle.codes.specs.declared.value.Value.{Value}
 use Rattle.codes.specs.declared.value.UnknownNumber.{UnknownNumber}
 use Rattle.codes.specs.declared.value.Value.TheVariants.{Off, On, Unknown}
@@ -19,6 +19,6 @@ agrees Off b = not b
 agrees On b = b
 agrees Unknown b = true
 
--- a number below 3 is that of its value, and no other number names one
+-- a number below 3 is that of its value; any other names none, and is handed back
 abbrev pub NumberNames : ℕ → Result Value UnknownNumber → Type 0
-NumberNames number read = OkIff read (number < 3) (value_of number)
+NumberNames number read = MatchResult read (λ value. (number < 3) × (value ≡ value_of number)) (λ fault. (3 ≤ number) × (fault ≡ record { 0 = number }))
