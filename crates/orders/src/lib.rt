@@ -2,9 +2,11 @@
 #![tactic(auto)]
 
 mod generations;
+mod laws;
 mod order;
 mod places;
 
 pub use generations::Generations;
+pub use laws::orders_stand;
 pub use order::Order;
 pub use places::{Columns, Places, Rows};
