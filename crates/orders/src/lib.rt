@@ -7,6 +7,6 @@ mod order;
 mod places;
 
 pub use generations::Generations;
-pub use laws::orders_stand;
+pub use laws::{orders_stand, ranks_stand};
 pub use order::Order;
 pub use places::{Columns, Places, Rows};
