@@ -1,5 +1,6 @@
 pub mod Edges
 pub mod Faults
+pub mod Fixes
 pub mod Layers
 pub mod Looks
 pub mod Meaning

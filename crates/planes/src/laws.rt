@@ -1,4 +1,5 @@
 ghost use Rattle.frames.specs.declared.frame.Frame.{Frame};
+ghost use Rattle.planes.specs.Fixes.{FixesStand};
 ghost use Rattle.planes.specs.Layers.{kind_of, mirror_tie};
 ghost use Rattle.planes.specs.Looks.{plain, torus, cylinder};
 ghost use Rattle.planes.specs.declared.sheet.Sheet.{Sheet};
@@ -21,4 +22,10 @@ pub fn planes_stand()
 // A mirror of the kind of a number asks what is defined for that number.
 pub fn mirrors_stand()
     ensures { (f : Frame) (number cell : ℕ) → ⟦<MirrorKind as Row>⟧.asked (kind_of number) f cell ≡ mirror_tie f number cell }
+{}
+
+// A fix that is granted asks its value of its cell, and of every other cell what was asked before; and
+// each that is refused is so for its reason.
+pub fn fixes_stand()
+    ensures { FixesStand }
 {}
