@@ -26,10 +26,13 @@ pub record ClassesWorked : Type 0 where
   pub all_free : free_among (musts_in (rows_of 0 0 true true)) ≡ 4
   -- left and right change places: two classes, whose lowest cells are 0 and 2
   pub across : numbers_in (rows_of 1 1 true true) ≡ record { classes = 0 ∷ 0 ∷ 1 ∷ 1 ∷ []; lowest = 0 ∷ 2 ∷ [] }
+  pub across_free : free_among (musts_in (rows_of 1 1 true true)) ≡ 2
   -- at the diagonal from the top left: cells 1 and 2 are joined, and the classes are numbered by their lowest cells
   pub diagonal : numbers_in (rows_of 1 4 true true) ≡ record { classes = 0 ∷ 1 ∷ 1 ∷ 2 ∷ []; lowest = 0 ∷ 1 ∷ 3 ∷ [] }
+  pub diagonal_free : free_among (musts_in (rows_of 1 4 true true)) ≡ 3
   -- a quarter turn: chains of ties join all four
   pub turned : numbers_in (rows_of 1 6 true true) ≡ record { classes = 0 ∷ 0 ∷ 0 ∷ 0 ∷ []; lowest = 0 ∷ [] }
+  pub turned_free : free_among (musts_in (rows_of 1 6 true true)) ≡ 1
   -- cell 1 has to be on: what is asked of one cell is asked of its class, which is known from the start
   pub known : musts_in (rows_of 2 4 true true) ≡ record { off = false; on = false } ∷ record { off = false; on = true } ∷ record { off = false; on = false } ∷ []
   pub two_free : free_among (musts_in (rows_of 2 4 true true)) ≡ 2

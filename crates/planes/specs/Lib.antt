@@ -1,4 +1,5 @@
 pub mod Edges
+pub mod Examples
 pub mod Faults
 pub mod Fixes
 pub mod Layers

@@ -1,4 +1,5 @@
 ghost use Rattle.frames.specs.declared.frame.Frame.{Frame};
+ghost use Rattle.planes.specs.Examples.{PlanesWorked};
 ghost use Rattle.planes.specs.Fixes.{FixesStand};
 ghost use Rattle.planes.specs.Layers.{kind_of, mirror_tie};
 ghost use Rattle.planes.specs.Looks.{plain, torus, cylinder};
@@ -28,4 +29,9 @@ pub fn mirrors_stand()
 // each that is refused is so for its reason.
 pub fn fixes_stand()
     ensures { FixesStand }
+{}
+
+// The worked examples of looks and ties stand.
+pub fn worked_planes_stand()
+    ensures { PlanesWorked }
 {}
