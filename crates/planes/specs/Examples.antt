@@ -1,5 +1,5 @@
 -- Worked examples of looks and ties, in a box of three columns and two rows: cells 0 1 2 above 3 4 5.
-use Rattle.std.specs.Prelude.{◌≡◌, ℕ, true, false, List, [], ◌∷◌, pos, negsuc, Some, None, Ok, Err, refl}
+use Rattle.std.specs.Prelude.{◌≡◌, ℕ, true, false, List, [], ◌∷◌, pos, negsuc, Some, None, Ok, Err}
 use Rattle.std.proofs.Common.{lit≤}
 use Rattle.frames.specs.declared.frame.Frame.{Frame}
 use Rattle.planes.specs.declared.fault.FixFault.TheVariants.{NoCell, Held}
