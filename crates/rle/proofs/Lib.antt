@@ -6,6 +6,7 @@ pub mod Lines
 pub mod Numerals
 pub mod Openings
 pub mod Pasts
+pub mod Patterns
 pub mod Reading
 pub mod Seen
 pub mod Turns
