@@ -19,7 +19,7 @@ shows_one text items f =
     (o.0, o.1, o.2, o.3, o.4, covers 0 0 o.4, record { readable = o.5; cells = λ x y a b. refl }, o.6)
 
 -- what is left after two items that are one
-took_rest : (a b : Taken) (v w : List ℕ) → good a v ≡ good b w → v ≡ w
+pub took_rest : (a b : Taken) (v w : List ℕ) → good a v ≡ good b w → v ≡ w
 took_rest a b v w e = cc
 
 -- a text is read to its end in one way
