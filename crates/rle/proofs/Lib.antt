@@ -1,4 +1,5 @@
 pub mod Bodies
+pub mod Canonical
 pub mod Faulting
 pub mod Headings
 pub mod Laying

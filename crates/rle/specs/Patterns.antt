@@ -7,7 +7,7 @@ use Rattle.rle.specs.declared.phase.Phase.TheVariants.{Opening}
 use Rattle.rle.specs.Items.{Part, Finishes}
 use Rattle.rle.specs.Laws.{Readable, Given}
 use Rattle.rle.specs.Marks.{pattern_marks, grouped}
-use Rattle.rle.specs.Runs.{covers}
+use Rattle.rle.specs.Runs.{Inside, covers}
 
 -- a text of the grammar and its pattern: a cell of the box is on exactly when an `o` run covers it
 pub record Shows (remarks : List (List ℕ)) (w h : ℕ) (rule : Option (List ℕ)) (runs : List Run) (pattern : ℕ → ℕ → Bool) (text : List ℕ) : Type 0 where
@@ -55,7 +55,14 @@ Canonical (r ∷ rs) = (1 ≤ r.count) × Follows r.mark rs × Canonical rs
 abbrev pub WritesCanonical : Type 0
 WritesCanonical = (w h : ℕ) (cells : List Bool) → Canonical (grouped (pattern_marks w h cells))
 
+-- runs of this form that lie in a box and cover the same cells of it are the same runs: a pattern is written in no other way
+abbrev pub OneForm : Type 0
+OneForm =
+    (w h : ℕ) (rs ss : List Run) → Canonical rs → Canonical ss → Inside w h 0 0 rs → Inside w h 0 0 ss →
+    ((x y : ℕ) → x < w → y < h → covers 0 0 rs x y ≡ covers 0 0 ss x y) → rs ≡ ss
+
 pub record PatternLaws : Type 0 where
   pub shows : ShowsOne
   pub alone : ShowsNoOther
   pub canonical : WritesCanonical
+  pub one : OneForm

@@ -14,8 +14,8 @@ pub fn round_trip_stands()
     ensures { RoundTrip }
 {}
 
-// A text shows one pattern, by one reading of its bytes; and the runs of a pattern are as few as there can be:
-// rows stop at their last on cell, and steps down are one run to the next row that has one.
+// A text shows one pattern, by one reading of its bytes; and each pattern is written by one row of runs: rows stop
+// at their last on cell, steps down are one run to the next row that has one, and equal marks are one run.
 pub fn patterns_stand()
     ensures { PatternLaws }
 {}
