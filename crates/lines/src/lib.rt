@@ -3,4 +3,4 @@
 
 mod lines;
 
-pub use lines::{Lines, after, is_blank, line_end, trimmed_len};
+pub use lines::{Lines, MOST_BYTES, after, is_blank, line_end, trimmed_len};

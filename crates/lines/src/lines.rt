@@ -4,6 +4,9 @@ ghost use Rattle.lines.specs.Ends.{LineEnd, Trimmed, NextLine};
 ghost use Rattle.lines.specs.Given.{GivenLine, HandsOut};
 ghost use Rattle.std.specs.Iterator.{at_most};
 
+// How many bytes a text or a problem has at most.
+pub const MOST_BYTES: usize = 65_536;
+
 // Whether a byte is a blank: a space, a tab or a carriage return.
 pub fn is_blank(byte: u8) -> bool
     ensures { result ≡ blank byte }

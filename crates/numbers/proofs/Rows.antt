@@ -7,6 +7,7 @@ use Rattle.std.proofs.lemmas.Fmt.{IsAscii-decimal, decimal_digit, decimal_is_IsN
 use Rattle.std.proofs.lemmas.Str.{IsUtf8-from_ascii}
 use Rattle.std.proofs.lemmas.Str.Parse.{IsNumeralModel, numerals_by_value, tells_digits, digit_at}
 use Rattle.std.proofs.lemmas.Bool.{cases_eq, cond-false, ne_eqb}
+use Rattle.numbers.specs.Digits.{OneRow}
 use Rattle.numbers.specs.Reading.{Reads}
 
 own : IsNumeralModel (AllDigits 10) (digits_value 10)
@@ -39,3 +40,19 @@ parsed_reads bs (Ok m) o plus single p e =
 parsed_reads bs (Err f) o plus single p e =
     let P : Option ℕ → Type 0 = Reads bs in
     subst P (sym e) (λ n k same. let is = parse-decimal 64 n bs (Err f) k k (sym same) p in absurd (cc))
+
+-- a leading zero is the whole of the digits
+zero_alone : (n : ℕ) → n < 2 ^ 64 → get_or (decimal n) 0 0 ≡ 48 → length (decimal n) ≡ 1
+zero_alone n k z =
+    ⊎_elim
+    (λ zero. ap length (decimal_digit n (omega arith)))
+    (λ more. absurd (omega (arith, first_decimal n (omega arith) k)))
+    (cases_eq n 0)
+
+-- the digits of a number stand for it, and nothing else does
+pub one_row : OneRow
+one_row n k =
+    let is = decimal_is_IsNumeral n k in (
+      record { some = is.0.0; digits = is.0.1; lead = zero_alone n k; value = is.1 },
+      λ row r. sym (ap decimal (sym r.value) ∙ decimal-digits_value own row r.digits r.some r.lead (omega (arith, r.value))),
+    )

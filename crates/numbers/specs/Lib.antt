@@ -1,2 +1,3 @@
-pub mod Writing
+pub mod Digits
 pub mod Reading
+pub mod Writing

@@ -2,7 +2,7 @@ ghost use Rattle.pages.specs.Pages.{PlacedIfFits, Written};
 ghost use Rattle.std.specs.Prelude.{decimal};
 
 use crate::fault::PageFault;
-use itoa::Buffer;
+use numbers::write_decimal;
 
 // Writes a text into the page from a place on, and answers the place after it. Where the text does not fit,
 // the page is as it was. Page and place are two parameters, here and in every call that writes: that
@@ -30,5 +30,8 @@ pub fn put(page: &mut [u8], at: usize, bytes: &[u8]) -> usize
 pub fn put_number(page: &mut [u8], at: usize, n: u64) -> usize
     ensures { PlacedIfFits page.old at (decimal n) page.new result }
 {
-    put(page, at, Buffer::new().format(n).as_bytes())
+    if at > page.len() {
+        return at;
+    }
+    write_decimal(&mut page[at..], n).map_or(at, |len| at + len)
 }

@@ -53,7 +53,7 @@ ends c (b ∷ bs) taken rest e h =
     (λ isnt. absurd (no_run c (b ∷ bs) (counted (b ∷ bs)) taken rest (sym (cond-false (eqb b 33) _ _ isnt) ∙ e) h))
     (cases_Bool (eqb b 33))
 
-part_over : (text : List ℕ) (p : Part) → told_part text p ≡ over → p ≡ ending
+pub part_over : (text : List ℕ) (p : Part) → told_part text p ≡ over → p ≡ ending
 part_over text (remark l) e = cc
 part_over text (header l head) e = cc
 part_over text (run r) e = cc

@@ -4,3 +4,4 @@ pub mod Fronts
 pub mod Numerals
 pub mod Parts
 pub mod Places
+pub mod Readings

@@ -1,5 +1,5 @@
 -- What a call of the reader answers, and how the reader stands after it.
-use Rattle.std.specs.Prelude.{◌≡◌, ℕ, cond, List, [], length, Ok, Err, Result, nat_le}
+use Rattle.std.specs.Prelude.{◌≡◌, ℕ, ◌<◌, ◌≤◌, cond, List, [], length, Ok, Err, Result, nat_le}
 use Rattle.rle.specs.declared.fault.ReadCause.{ReadCause}
 use Rattle.rle.specs.declared.fault.ReadCause.TheVariants.{TooLong}
 use Rattle.rle.specs.declared.fault.ReadFault.{ReadFault}
@@ -34,6 +34,11 @@ first_phase text = cond (nat_le (length text) 65536) Opening (Failed TooLong)
 pub record Opened (text : List ℕ) (r : Reader) : Type 0 where
   pub whole : r.text.now ≡ readable text
   pub stands : standing r ≡ record { rest = readable text; phase = first_phase text }
+
+-- a reader stands at the start of a text of at most 65,536 bytes, or a longer one is refused at its first byte
+abbrev pub Begun : List ℕ → Result Reader ReadFault → Type 0
+Begun text (Ok r) = (length text ≤ 65536) × (r.text.now ≡ text) × (standing r ≡ record { rest = text; phase = Opening })
+Begun text (Err fault) = (65536 < length text) × (fault ≡ record { line = 1; column = 1; cause = TooLong })
 
 -- an item without references, and where it starts
 pub record LocatedShown : Type 0 where

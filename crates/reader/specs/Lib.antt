@@ -1,4 +1,5 @@
 pub mod Again
 pub mod Calls
 pub mod Left
+pub mod Readings
 pub mod Shown

@@ -13,5 +13,5 @@ mod sizes;
 mod steps;
 
 pub use item::{Heading, Item, Located};
-pub use laws::answers_repeat;
+pub use laws::{answers_repeat, calls_stand};
 pub use reader::Reader;

@@ -1,5 +1,5 @@
 ghost use Rattle.std.specs.Prelude.{◌≡◌, ◌≤◌, length};
-ghost use Rattle.reader.specs.Calls.{item_here, standing, Opened, Answered};
+ghost use Rattle.reader.specs.Calls.{item_here, standing, Begun, Opened, Answered};
 ghost use Rattle.reader.specs.Left.{Passed};
 ghost use Rattle.reader.specs.Shown.{Took};
 ghost use Rattle.rle.specs.Items.{item_start, remark_item, heading_item, opening_item};
@@ -7,18 +7,34 @@ ghost use Rattle.rle.specs.Items.{item_start, remark_item, heading_item, opening
 use crate::gap::Gap;
 use crate::item::{Item, Located, Taken};
 use crate::reader::Reader;
+use lines::MOST_BYTES;
 use rle::{Cursor, Phase, ReadCause, ReadFault};
 
 impl<'a> Reader<'a> {
-    // A reader at the start of a text. One of more than 65,536 bytes is at fault there, and nothing
-    // of it is read.
+    // A reader at the start of a text. One of more than 65,536 bytes is refused at its first byte.
+    pub fn open(text: &'a [u8]) -> Result<Reader<'a>, ReadFault>
+        ensures { Begun text.now result }
+    {
+        if text.len() > MOST_BYTES {
+            return Err(ReadFault {
+                line: 1,
+                column: 1,
+                cause: ReadCause::TooLong,
+            });
+        }
+        Ok(Reader::at_start(text, Phase::Opening))
+    }
+
+    // The same for a caller that meets each refusal at its first item: a text that is refused gives a
+    // reader of nothing, at that fault.
     pub fn new(text: &'a [u8]) -> Reader<'a>
         ensures { Opened text.now result }
     {
-        if text.len() > 65_536 {
-            return Reader::at_start(&[], Phase::Failed(ReadCause::TooLong));
+        // a match: the prover does not cover `unwrap_or_else` of a type with a lifetime
+        match Reader::open(text) {
+            Ok(reader) => reader,
+            Err(fault) => Reader::at_start(&[], Phase::Failed(fault.cause)),
         }
-        Reader::at_start(text, Phase::Opening)
     }
 
     #[tactic(auto, unfolding(rle::specs::Spots::spot_past))]

@@ -1,13 +1,14 @@
 use crate::expected::{Place, Refusal, Verdict};
+use lines::MOST_BYTES;
 use reader::{Item, Reader};
 
 // A text has no more items than bytes, and the end.
-const MOST_ITEMS: u32 = 65_537;
+const MOST_ITEMS: usize = MOST_BYTES + 1;
 
 // Where the rule starts, or would start, in a text that is read to its end; none where the end does
 // not come.
 fn rule_place(text: &[u8]) -> Result<Option<Place>, Refusal> {
-    let mut reader = Reader::new(text);
+    let mut reader = Reader::open(text)?;
     let mut rule = None;
     // the reader answers its end again and again, so it is no iterator that runs out
     for _ in 0..MOST_ITEMS {

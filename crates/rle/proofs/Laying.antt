@@ -11,7 +11,7 @@ use Rattle.rle.specs.declared.mark.Run.{Run}
 use Rattle.rle.specs.Marks.{cell_mark, step_down, marks_from, pattern_marks, same_mark, join_mark, grouped}
 use Rattle.rle.specs.Runs.{is_on, column_after, row_after, fitting, Inside, covers}
 
-same_is : (m k : Mark) → same_mark m k ≡ true → m ≡ k
+pub same_is : (m k : Mark) → same_mark m k ≡ true → m ≡ k
 same_is Off Off e = refl
 same_is Off On e = cc
 same_is Off NextRow e = cc

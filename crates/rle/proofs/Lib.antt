@@ -1,4 +1,5 @@
 pub mod Bodies
+pub mod Canonical
 pub mod Faulting
 pub mod Headings
 pub mod Laying
@@ -6,6 +7,7 @@ pub mod Lines
 pub mod Numerals
 pub mod Openings
 pub mod Pasts
+pub mod Patterns
 pub mod Reading
 pub mod Seen
 pub mod Turns

@@ -4,6 +4,7 @@ pub mod Forms
 pub mod Items
 pub mod Laws
 pub mod Marks
+pub mod Patterns
 pub mod Runs
 pub mod Scans
 pub mod Spots

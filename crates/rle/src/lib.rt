@@ -7,6 +7,6 @@ mod mark;
 mod phase;
 
 pub use fault::{ReadCause, ReadFault};
-pub use laws::{reading_stands, round_trip_stands};
+pub use laws::{patterns_stand, reading_stands, round_trip_stands};
 pub use mark::{Mark, Run};
 pub use phase::{Cursor, Phase, Step};
