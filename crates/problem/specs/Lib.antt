@@ -1,1 +1,4 @@
 pub mod Faults
+pub mod Forms
+pub mod Lines
+pub mod Reading

@@ -2,7 +2,7 @@
 #![tactic(auto)]
 
 mod fault;
-mod fields;
+mod forms;
 mod problem;
 mod reading;
 #[cfg(test)]
