@@ -5,8 +5,8 @@ use Rattle.std.specs.Prelude.{MatchOption}
 use Rattle.std.specs.Borrow.{Bor}
 use Rattle.words.specs.Words.{after_key, seen}
 
--- a line's rest is there or not
-pub either : (o : Option (List ℕ)) → (o ≡ None) ⊎ ((a : List ℕ) × (o ≡ Some a))
+-- a value is there or not
+pub either : {A : Type 0} (o : Option A) → (o ≡ None) ⊎ ((a : A) × (o ≡ Some a))
 either None = inl refl
 either (Some a) = inr (a, refl)
 

@@ -3,7 +3,9 @@
 
 mod cuts;
 mod digits;
+mod laws;
 mod words;
 
 pub use cuts::value_of;
+pub use laws::words_stand;
 pub use words::Words;
