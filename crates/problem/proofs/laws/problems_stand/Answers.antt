@@ -1,0 +1,5 @@
+use Rattle.problem.proofs.Texts.{every, first_fault, only, too_long}
+use Rattle.problem.proofs.laws.problems_stand.Goals as goal
+
+pub returns : goal.returns
+returns c = record { every = every; only = only; first = first_fault; long = too_long }
