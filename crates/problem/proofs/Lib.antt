@@ -1,3 +1,4 @@
+pub mod Ends
 pub mod Faulting
 pub mod Fixes
 pub mod Lines
