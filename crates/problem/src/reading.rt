@@ -47,7 +47,7 @@ fn frame_of(line: Option<&[u8]>) -> Result<Frame, Cause>
     ensures value { frame_shown result ≡ frame_line (seen line.entry) }
     ensures own { IfErr result OfLine }
 {
-    let size = line.and_then(|line| size_in(line));
+    let size = line.and_then(size_in);
     let Size {
         width,
         height,
@@ -75,7 +75,7 @@ fn surface_of(line: Option<&[u8]>, frame: Frame) -> Result<Surface, Cause>
     ensures frame { IfOk result (λ s. s.frame ≡ frame) }
     ensures own { IfErr result OfLine }
 {
-    let named = line.and_then(|line| space_in(line)).ok_or(Cause::Form)?;
+    let named = line.and_then(space_in).ok_or(Cause::Form)?;
     Ok(surface_over(frame, named))
 }
 
@@ -83,14 +83,14 @@ fn order_of(line: Option<&[u8]>) -> Result<AnyOrder, Cause>
     ensures value { result ≡ formed order_in (seen line.entry) }
     ensures own { IfErr result OfLine }
 {
-    line.and_then(|line| order_in(line)).ok_or(Cause::Form)
+    line.and_then(order_in).ok_or(Cause::Form)
 }
 
 fn mirror_of(line: Option<&[u8]>) -> Result<MirrorKind, Cause>
     ensures value { result ≡ formed mirror_in (seen line.entry) }
     ensures own { IfErr result OfLine }
 {
-    line.and_then(|line| mirror_in(line)).ok_or(Cause::Form)
+    line.and_then(mirror_in).ok_or(Cause::Form)
 }
 
 // The five lines that every problem has.
