@@ -18,8 +18,8 @@ pub record FirstFault (lines : List (List ℕ)) (fault : ProblemFault) : Type 0 
   pub begins : (rest : List (List ℕ)) × (p : Said) × Written (before ++ rest) p
   pub stops : ((lines ≡ before) × (fault.cause ≡ Form)) ⊎ NoMore before lines
 
--- The lines of a text are those that stand in it, and no others do. The texts of at most 65,536 bytes that are problems are those whose lines are written forms, and they say what is written; any
--- other is refused at its first line at fault.
+-- The lines of a text are those that stand in it, and no others do. The texts of at most 65,536 bytes that are problems are those
+-- whose lines are written forms, and they say what is written; any other is refused at its first line at fault.
 pub record ProblemLaws : Type 0 where
   pub lines : (text : List ℕ) → Stand (lines_in text) text
   pub lines_only : (text : List ℕ) (lines : List (List ℕ)) → Stand lines text → lines_in text ≡ lines
