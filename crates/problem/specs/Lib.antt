@@ -1,1 +1,6 @@
 pub mod Faults
+pub mod Forms
+pub mod Laws
+pub mod Lines
+pub mod Reading
+pub mod Written

@@ -2,12 +2,14 @@
 #![tactic(auto)]
 
 mod fault;
-mod fields;
+mod forms;
+mod laws;
 mod problem;
 mod reading;
 #[cfg(test)]
 mod tests;
 
 pub use fault::{Cause, ProblemFault};
+pub use laws::problems_stand;
 pub use problem::Problem;
 pub use reading::read_problem;

@@ -1,0 +1,4 @@
+pub mod Keys
+pub mod Numbers
+pub mod Signed
+pub mod Steps

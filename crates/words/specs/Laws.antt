@@ -1,0 +1,12 @@
+-- The laws of words: the words that are numbers are the written forms of their numbers, and a value is what follows its key and a blank.
+use Rattle.std.specs.Prelude.{◌≡◌, ℕ, List, Some, ℤ}
+use Rattle.words.specs.Forms.{Digits, KeyAndValue, SignedDigits}
+use Rattle.words.specs.Words.{number_of, signed_of, value_after}
+
+pub record WordLaws : Type 0 where
+  pub number_read : (word : List ℕ) (n : ℕ) → Digits n word → number_of word ≡ Some n
+  pub number_only : (word : List ℕ) (n : ℕ) → number_of word ≡ Some n → Digits n word
+  pub signed_read : (word : List ℕ) (z : ℤ) → SignedDigits z word → signed_of word ≡ Some z
+  pub signed_only : (word : List ℕ) (z : ℤ) → signed_of word ≡ Some z → SignedDigits z word
+  pub value_read : (key value line : List ℕ) → KeyAndValue key value line → value_after key line ≡ Some value
+  pub value_only : (key value line : List ℕ) → value_after key line ≡ Some value → KeyAndValue key value line
