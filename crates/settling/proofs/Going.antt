@@ -14,9 +14,11 @@ use Rattle.systems.proofs.Trails.{trailed_long, trail_laws, grows_then}
 use Rattle.codes.specs.declared.table.Table.{Table}
 use Rattle.codes.specs.Tables.{code_in}
 use Rattle.gathering.specs.Bounds.{nowhere}
+use Rattle.gathering.specs.Rendering.{AllTouching}
 use Rattle.gathering.specs.Systems.{class_count, instances_of}
 use Rattle.gathering.specs.declared.system.System.{System}
-use Rattle.settling.specs.Boards.{Touched, Kept, Serves, Around, Through}
+use Rattle.settling.specs.Boards.{Kept, Serves}
+use Rattle.settling.specs.Knowing.{Around, Through}
 use Rattle.settling.specs.declared.board.Board.{Board}
 
 -- fewer classes to look out for
@@ -106,7 +108,7 @@ seen_all S is k old new all l s =
     }
 
 pub seen_around : (S : Sys) (is : List Instance) (numbers : List ℕ) (class k : ℕ) (old new : Held) → ((i : Instance) → In i S.instances → In i is) →
-    ((n : ℕ) → n < length is → Mentions (get_or is n nowhere) class → In n numbers) → length numbers ≤ k → Seen S (picked is numbers) k old new → Around S class old new
+    AllTouching is class numbers → length numbers ≤ k → Seen S (picked is numbers) k old new → Around S class old new
 unfolding picked
 seen_around S is numbers class k old new all touched l s =
     record {
@@ -117,10 +119,10 @@ seen_around S is numbers class k old new all touched l s =
           subst (Since S old new) (ap (λ (x : ℕ). get_or is x nowhere) n.2 ∙ q.2) (s.quiet n.0 (omega (arith, n.1)));
     }
 
-pub touched_same : (is js : List Instance) (ns ms : List ℕ) (class : ℕ) → is ≡ js → ns ≡ ms → ((n : ℕ) → n < length js → Mentions (get_or js n nowhere) class → In n ms) →
-    (n : ℕ) → n < length is → Mentions (get_or is n nowhere) class → In n ns
-touched_same is js ns ms class e f t n l m =
-    subst (In n) (sym f) (t n (subst (λ (ks : List Instance). n < length ks) e l) (subst (λ (ks : List Instance). Mentions (get_or ks n nowhere) class) e m))
+-- the same instances by another name
+pub touched_same : (is js : List Instance) (numbers : List ℕ) (class : ℕ) → is ≡ js → AllTouching js class numbers → AllTouching is class numbers
+touched_same is js numbers class e t n l m =
+    t n (subst (λ (ks : List Instance). n < length ks) e l) (subst (λ (ks : List Instance). Mentions (get_or ks n nowhere) class) e m)
 
 -- ---- a class of the trail is settled
 pub class_settled : (S : Sys) (old new : Held) (k class : ℕ) → k < length old.trail → class ≡ get_or old.trail k 0 → Grows old new → Around S class old new →
@@ -156,11 +158,7 @@ serves_kept a b S k s =
       rule = λ n. ap (λ (t : Table). code_in t n) k.table ∙ s.rule n;
       there = λ i m. subst (λ (y : System). In i (instances_of y)) (sym k.system) (s.there i m);
       back = λ i m. s.back i (subst (λ (y : System). In i (instances_of y)) k.system m);
-      touched = subst (λ (y : System). Touched y) (sym k.system) s.touched;
       sized = s.sized ∙ ap (λ (y : System). class_count y + 1) (sym k.system);
       proper = s.proper;
       whole = s.whole;
     }
-
-pub kept_then : (a b c : Board) → Kept a b → Kept b c → Kept a c
-kept_then a b c k l = record { system = l.system ∙ k.system; table = l.table ∙ k.table }

@@ -1,13 +1,14 @@
--- What is known of the classes, and what setting some of them leaves as it was.
-use Rattle.std.specs.Prelude.{◌≡◌, ℕ, ◌≤◌, ◌≢◌, Bool, List, [], ◌∷◌, Option, Some, None, vec_len, vec_items, slice_set}
+-- What is known of the classes, and what setting some of them and looking at instances leaves.
+use Rattle.std.specs.Prelude.{◌≡◌, ℕ, ◌≤◌, ◌≢◌, Bool, List, [], ◌∷◌, length, drop, Option, Some, None, vec_len, vec_items, slice_set}
 use Rattle.codes.specs.declared.table.Table.{Table}
 use Rattle.codes.specs.declared.value.Value.{Value}
 use Rattle.codes.specs.declared.value.Value.TheVariants.{Unknown}
 use Rattle.codes.specs.Laws.{known}
 use Rattle.codes.specs.Tables.{code_at, code_in}
 use Rattle.systems.specs.declared.instance.Instance.{Instance}
-use Rattle.systems.specs.Systems.{at, code_for}
-use Rattle.systems.specs.Trails.{Held, hold_by, Grows}
+use Rattle.systems.specs.Systems.{In, Sys, at, code_for, Mentions}
+use Rattle.systems.specs.Settling.{Steps}
+use Rattle.systems.specs.Trails.{Held, hold_by, Grows, QuietUnless}
 use Rattle.settling.specs.declared.known.Known.{Known}
 
 -- the values and the trail
@@ -44,3 +45,13 @@ pub record Looked (rule : Bool → ℕ → Bool) (i : Instance) (old new : Known
 pub record Refused (rule : Bool → ℕ → Bool) (i : Instance) (old new : Known) : Type 0 where
   pub contradiction : code_for rule (at (vec_items old.values)) i ≡ 1
   pub same : held new ≡ held old
+
+-- classes were set by forcing steps, and each instance is quiet since, unless it names one of these
+pub record Through (S : Sys) (old new : Held) : Type 0 where
+  pub steps : Steps S old.values new.values
+  pub quiet : (i : Instance) → In i S.instances → QuietUnless S.rule (at new.values) (drop (length old.trail) new.trail) i
+
+-- the same of the instances that name a class
+pub record Around (S : Sys) (class : ℕ) (old new : Held) : Type 0 where
+  pub steps : Steps S old.values new.values
+  pub quiet : (i : Instance) → In i S.instances → Mentions i class → QuietUnless S.rule (at new.values) (drop (length old.trail) new.trail) i

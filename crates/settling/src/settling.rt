@@ -4,8 +4,8 @@ ghost use Rattle.gathering.specs.Systems.{class_count};
 ghost use Rattle.systems.specs.Settling.{Meets, Settles};
 ghost use Rattle.systems.specs.Systems.{Sys, at};
 ghost use Rattle.systems.specs.Trails.{Grows, QuietBut, Trailed, hold};
-ghost use Rattle.settling.specs.Boards.{Around, Kept, Serves, Through, held_of, settled_len, trail_len, trail_of, unsettled_of, values_of};
-ghost use Rattle.settling.specs.Knowing.{Grown};
+ghost use Rattle.settling.specs.Boards.{Kept, Serves, held_of, settled_len, trail_len, trail_of, unsettled_of, values_of};
+ghost use Rattle.settling.specs.Knowing.{Around, Grown, Through};
 
 use crate::board::Board;
 use crate::contradiction::Contradiction;

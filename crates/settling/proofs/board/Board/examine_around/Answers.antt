@@ -4,7 +4,7 @@ use Rattle.systems.specs.Systems.{In}
 use Rattle.systems.proofs.Base.{in_get_d}
 use Rattle.systems.proofs.Trails.{grows_none}
 use Rattle.gathering.specs.Bounds.{nowhere}
-use Rattle.gathering.specs.Systems.{instances_of, touching_of}
+use Rattle.gathering.specs.Systems.{instances_of}
 use Rattle.settling.specs.Boards.{held_of}
 use Rattle.settling.specs.Knowing.{held}
 use Rattle.settling.proofs.Held.{grown_none, grown_then}
@@ -54,5 +54,5 @@ returns-clause-around c = λ S s l.
     let numbers = c.touching-number-items.result.now in
     seen_around S is numbers c.args.class c.loop-number.number-index (held_of was) (held c.loop-number.known)
     (λ i m. subst (In i) (sym c.instances-instances.ensures.value) (s.there i m))
-    (touched_same is (instances_of was.system) numbers (touching_of was.system c.args.class) c.args.class c.instances-instances.ensures.value c.touching-number-items.ensures.value (s.touched c.args.class l))
+    (touched_same is (instances_of was.system) numbers c.args.class c.instances-instances.ensures.value (c.touching-number-items.ensures.complete l))
     c.loop-number-test.false (c.loop-number.invariant.seen S s)
