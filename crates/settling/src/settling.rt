@@ -1,4 +1,5 @@
 ghost use Rattle.std.specs.Prelude.{◌≡◌, ℕ, ◌+◌, ◌<◌, ◌≤◌, List, [], ◌++◌, length, min, MatchResult, OnOk};
+ghost use Rattle.codes.specs.Codes.{is_unknown};
 ghost use Rattle.codes.specs.declared.value.Value.{Value};
 ghost use Rattle.gathering.specs.Systems.{class_count};
 ghost use Rattle.systems.specs.Settling.{Meets, Settles};
@@ -12,16 +13,22 @@ use crate::contradiction::Contradiction;
 use codes::Value;
 
 impl Board {
-    // What is known of a class; nothing is off.
+    // What is known of a class; nothing is known of one that there is not.
     pub fn value(&self, class: u16) -> Value
-        ensures known { class ≤ class_count self.now.system → result ≡ at (values_of self.now) class }
-        ensures past { class_count self.now.system < class → result ≡ Value.Off }
+        ensures { result ≡ at (values_of self.now) class }
     {
         self.known
             .values
             .get(usize::from(class))
             .copied()
-            .unwrap_or(Value::Off)
+            .unwrap_or(Value::Unknown)
+    }
+
+    // Whether nothing is known of a class.
+    pub fn is_unknown(&self, class: u16) -> bool
+        ensures { result ≡ is_unknown (at (values_of self.now) class) }
+    {
+        matches!(self.value(class), Value::Unknown)
     }
 
     // How many classes are on the trail.

@@ -1,0 +1,6 @@
+mod Decided
+mod Opened
+mod Ranks
+mod Settled
+mod Turned
+mod Walks
