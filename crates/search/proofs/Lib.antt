@@ -1,4 +1,6 @@
+mod Calls
 mod Decided
+mod Finds
 mod Opened
 mod Ranks
 mod Settled

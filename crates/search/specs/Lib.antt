@@ -6,3 +6,4 @@ pub mod Moves
 pub mod Opening
 pub mod Stacks
 pub mod Standings
+pub mod Calls
