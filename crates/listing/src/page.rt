@@ -1,3 +1,12 @@
+ghost use Rattle.std.specs.Prelude.{◌≡◌, ℕ, OnOk};
+ghost use Rattle.frames.specs.Frames.{cells};
+ghost use Rattle.rules.specs.declared.rule.Rule.{Rule};
+ghost use Rattle.rolls.specs.Laws.{Orders};
+ghost use Rattle.rolls.specs.Rolls.{Surface};
+ghost use Rattle.histories.specs.Searches.{fresh};
+ghost use Rattle.search.specs.Calls.{IsOpen, state_in, told_by};
+ghost use Rattle.listing.specs.Handing.{PageHanded};
+
 use crate::fault::ListFault;
 use crate::sink::{Closed, Sink};
 use printing::write_found;
@@ -21,12 +30,16 @@ fn rested<S: Sink>(left: u32, taken: u32, sink: &mut S) -> Result<u32, Closed> {
     }
 }
 
-// Runs a search to its end: every find is handed to the sink as it is told, then the last line.
+// Runs a search to its end: every find is handed to the sink as it is told, then the last line. From
+// the opening on these are all that the space and the rule allow.
 pub fn list_page<S: Sink>(
     search: &mut Search,
     page: &mut [u8],
     sink: &mut S,
-) -> Result<(), ListFault> {
+) -> Result<(), ListFault>
+    ensures { (s : Surface) (rule : Rule) (cell rank : ℕ → ℕ) → Orders (cells s.frame) cell rank → IsOpen search.old s rule cell → state_in search.old ≡ fresh → told_by search.old ≡ 0 →
+        OnOk result (PageHanded S.Sink.takes S.Sink.rests s rule cell sink.old sink.new) }
+{
     let mut left = STRIDE;
     // every loop has to end: 2^64 - 1 goes are more than any machine makes
     for _ in 0..u64::MAX {
