@@ -17,7 +17,7 @@ values_of b = vec_items b.known.values
 abbrev pub trail_of : Board → List ℕ
 trail_of b = vec_items b.known.trail
 
--- both
+-- the values and the trail
 abbrev pub held_of : Board → Held
 held_of b = held b.known
 
