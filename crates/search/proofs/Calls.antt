@@ -69,5 +69,5 @@ module _ (s : Surface) (rule : Rule) (cell : ℕ → ℕ) (r r' : Record) (h : S
         moves =
             subst (λ (s : State). Go S n s (reply_of q' a) (steps_of a) (state_in q')) (sym was)
             (subst (λ (s : State). Go S n (state_of r) (reply_of q' a) (steps_of a) s) (sym now)
-              (subst (λ (reply : Reply). Go S n (state_of r) reply (steps_of a) (state_of r')) (sym said) moved));
+            (subst (λ (reply : Reply). Go S n (state_of r) reply (steps_of a) (state_of r')) (sym said) moved));
       }

@@ -170,9 +170,9 @@ module _ (S : Sys) (r : Record) (d : Decision) (may : MayDecide r S d) where
             marks = λ j l.
                 subst (λ (ds : List Decision). (slice_index_or ds j first).mark ≤ settled_len r'.board) (sym pushed)
                 (marks_push r.decisions.items d (settled_len r'.board)
-                  (λ k m. omega (arith, may.marks k (omega (arith, m, r.decisions.ok.0)), settled, onward))
-                  (omega (arith, may.mark, may.settled, settled, onward))
-                  j (omega (arith, l, r'.decisions.ok.0, ap length pushed)));
+                (λ k m. omega (arith, may.marks k (omega (arith, m, r.decisions.ok.0)), settled, onward))
+                (omega (arith, may.mark, may.settled, settled, onward))
+                j (omega (arith, l, r'.decisions.ok.0, ap length pushed)));
             settled = all_settled;
             stands = subst (λ (ds : List Decision). StandsAs S (decided_in S ds) (values_of r'.board) r'.standing) (sym pushed) (stands_now (values_of r'.board) r'.standing stands);
           }

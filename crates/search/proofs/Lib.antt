@@ -1,6 +1,6 @@
 mod Calls
 mod Decided
-mod Finds
+pub mod Finds
 mod Opened
 mod Ranks
 mod Settled

@@ -84,8 +84,8 @@ module _ (S : Sys) (r : Record) (torn : Bool) (may : MayOpen r S torn) where
   pub torn_follows : torn ≡ true → Follows r S
   torn_follows q =
       opened r (record { system = refl; table = refl }) refl refl (record { added = []; trail = sym (append-nil (trail_of r.board)); values = not_yet })
-        (λ e. never (cc (e, ap is_contradiction may.standing)))
-        (subst (StandsAs S S.start (values_of r.board)) (sym may.standing) (λ v c b. never (cc (c.not_torn, may.whole, q))))
+      (λ e. never (cc (e, ap is_contradiction may.standing)))
+      (subst (StandsAs S S.start (values_of r.board)) (sym may.standing) (λ v c b. never (cc (c.not_torn, may.whole, q))))
 
   module _ (whole : torn ≡ false) where
     pub may_serve : Serves r.board S
@@ -95,8 +95,8 @@ module _ (S : Sys) (r : Record) (torn : Bool) (may : MayOpen r S torn) where
     pub met_follows : (r' : Record) → Kept r.board r'.board → r'.ranks ≡ r.ranks → r'.decisions ≡ r.decisions → Grows (held_of r.board) (held_of r'.board) → r'.standing ≡ r.standing → Meets S (values_of r.board) → Follows r' S
     met_follows r' kept ranks decisions grows same m =
         opened r' kept ranks decisions grows
-          (λ e. never (cc (e, ap is_contradiction (same ∙ may.standing))))
-          (subst (StandsAs S S.start (values_of r'.board)) (sym (same ∙ may.standing)) (subst (Dead S) may.start (meets_dead S m)))
+        (λ e. never (cc (e, ap is_contradiction (same ∙ may.standing))))
+        (subst (StandsAs S S.start (values_of r'.board)) (sym (same ∙ may.standing)) (subst (Dead S) may.start (meets_dead S m)))
 
     module _ (b : Board) (kept : Kept r.board b) (all : settled_len b ≡ trail_len b) (s : Settles S (values_of r.board) (values_of b)) where
       least : Least S S.start (values_of b)

@@ -62,7 +62,7 @@ none_full S proper σ long below from h none =
     at_known x l =
         elim (view (at S.start x)) [
           | inl u ↦ (let q = get_d_in S.order 0 x (proper.choosable x (omega arith) u) in
-            ap (λ (y : ℕ). is_unknown (at σ y)) (sym q.2) ∙ all_known q.0 q.1)
+              ap (λ (y : ℕ). is_unknown (at σ y)) (sym q.2) ∙ all_known q.0 q.1)
           | inr b ↦ known_false (at σ x) (λ e. known_unknown b.0 (sym (below x b.0 b.1) ∙ e))
         ]
 

@@ -87,27 +87,27 @@ popped {S} proper (decided {es = es} d g {h} below least first_rank mark grows) 
     let onto : Grows g h = grows_then (grows_decided S proper es g below d.rank d.on first_rank) grows in
     elim (cases_lt n (length es)) [
       | inl m ↦ (let p = popped proper below n m in
-        let t = take-append-le n es (d ∷ []) (omega arith) in
-        let q = get_or_append_left es (d ∷ []) first n m in
-        record {
-          before = p.before;
-          stack = subst (λ (ds : List Decision). Stack S ds p.before) (sym t) p.stack;
-          least = subst (λ (ds : List Decision). Least S (decided_in S ds) p.before.values) (sym t) p.least;
-          first_rank = subst (λ (c : Decision). FirstRank (at p.before.values) S.order c.rank) (sym q) p.first_rank;
-          mark = p.mark ∙ ap (λ (c : Decision). c.mark) (sym q);
-          grows = grows_then p.grows onto;
-        })
+          let t = take-append-le n es (d ∷ []) (omega arith) in
+          let q = get_or_append_left es (d ∷ []) first n m in
+          record {
+            before = p.before;
+            stack = subst (λ (ds : List Decision). Stack S ds p.before) (sym t) p.stack;
+            least = subst (λ (ds : List Decision). Least S (decided_in S ds) p.before.values) (sym t) p.least;
+            first_rank = subst (λ (c : Decision). FirstRank (at p.before.values) S.order c.rank) (sym q) p.first_rank;
+            mark = p.mark ∙ ap (λ (c : Decision). c.mark) (sym q);
+            grows = grows_then p.grows onto;
+          })
       | inr m ↦ (let e : n ≡ length es = omega (arith, l, m, length_push es d) in
-        let t : take n (es ++ d ∷ []) ≡ es = ap (λ (k : ℕ). take k (es ++ d ∷ [])) e ∙ take-append_seam es (d ∷ []) in
-        let q : slice_index_or (es ++ d ∷ []) n first ≡ d = ap (λ (k : ℕ). get_or (es ++ d ∷ []) k first) e ∙ get_or-append_seam es d [] first in
-        record {
-          before = g;
-          stack = subst (λ (ds : List Decision). Stack S ds g) (sym t) below;
-          least = subst (λ (ds : List Decision). Least S (decided_in S ds) g.values) (sym t) least;
-          first_rank = subst (λ (c : Decision). FirstRank (at g.values) S.order c.rank) (sym q) first_rank;
-          mark = mark ∙ ap (λ (c : Decision). c.mark) (sym q);
-          grows = onto;
-        })
+          let t : take n (es ++ d ∷ []) ≡ es = ap (λ (k : ℕ). take k (es ++ d ∷ [])) e ∙ take-append_seam es (d ∷ []) in
+          let q : slice_index_or (es ++ d ∷ []) n first ≡ d = ap (λ (k : ℕ). get_or (es ++ d ∷ []) k first) e ∙ get_or-append_seam es d [] first in
+          record {
+            before = g;
+            stack = subst (λ (ds : List Decision). Stack S ds g) (sym t) below;
+            least = subst (λ (ds : List Decision). Least S (decided_in S ds) g.values) (sym t) least;
+            first_rank = subst (λ (c : Decision). FirstRank (at g.values) S.order c.rank) (sym q) first_rank;
+            mark = mark ∙ ap (λ (c : Decision). c.mark) (sym q);
+            grows = onto;
+          })
     ]
 
 -- every decision's mark lies within the trail
@@ -173,7 +173,7 @@ module _ (S : Sys) (r : Record) (follows : Follows r S) (n : ℕ) (off : LastOff
             marks = λ j l.
                 subst (λ (c : Board). (slice_index_or r'.decisions.items j first).mark ≤ settled_len c) (sym e)
                 (subst (λ (ds : List Decision). (slice_index_or ds j first).mark ≤ settled_len b) (sym dropped)
-                  (omega (arith, marks_within follows.board.proper p.stack j (omega (arith, l, r'.decisions.ok.0, ap length dropped)), p.mark, settled_back)));
+                (omega (arith, marks_within follows.board.proper p.stack j (omega (arith, l, r'.decisions.ok.0, ap length dropped)), p.mark, settled_back)));
             settled = subst (λ (c : Board). settled_len c ≡ trail_len c) (sym e) (settled_back ∙ sym trail_back);
             mark = subst (λ (c : Board). trail_len c ≡ d.mark) (sym e) trail_back;
             least = subst (λ (c : Board). Least S (decided_in S r'.decisions.items) (values_of c)) (sym e) (subst (λ (ds : List Decision). Least S (decided_in S ds) (values_of b)) (sym dropped) (subst (Least S (decided_in S (take n r.decisions.items))) (sym put_back.0) p.least));

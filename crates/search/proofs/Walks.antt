@@ -112,7 +112,7 @@ module _ (S : Sys) (r : Record) (follows : Follows r S) where
           settled = λ q. subst (λ (b : Board). settled_len b ≡ trail_len b) (sym board) (follows.settled (ap is_contradiction e));
           stands = subst (StandsAs S (decided_in S r'.decisions.items) (values_of r'.board)) (sym e')
               (subst (λ (b : Board). StandsAs S (decided_in S r'.decisions.items) (values_of b) Told) (sym board)
-                (subst (λ (v : Vec Decision Global). StandsAs S (decided_in S v.items) (values_of r.board) Told) (sym decisions) at_find));
+              (subst (λ (v : Vec Decision Global). StandsAs S (decided_in S v.items) (values_of r.board) Told) (sym decisions) at_find));
         }
 
     pub due_found : (n : ℕ) → Due S r r' (Found n)
@@ -122,8 +122,8 @@ module _ (S : Sys) (r : Record) (follows : Follows r S) where
           go = λ m.
               subst (λ (s : State). Go S m s (reply_in r' (Found n)) 0 (state_of r')) (sym untold)
               (subst (λ (s : State). Go S m (record { standing = all_meant S.order r.decisions.items; told = false }) (reply_in r' (Found n)) 0 s) (sym told_now)
-                (subst (λ (b : Board). Go S m (record { standing = all_meant S.order r.decisions.items; told = false }) (tells_find (find_in (values_of b))) 0 (record { standing = all_meant S.order r.decisions.items; told = true })) (sym board)
-                  (tells_it (tell (subst (Least S (decided_in S r.decisions.items)) at_find.1 at_find.0)))));
+              (subst (λ (b : Board). Go S m (record { standing = all_meant S.order r.decisions.items; told = false }) (tells_find (find_in (values_of b))) 0 (record { standing = all_meant S.order r.decisions.items; told = true })) (sym board)
+              (tells_it (tell (subst (Least S (decided_in S r.decisions.items)) at_find.1 at_find.0)))));
         }
 
   pub due_done : (n : ℕ) → turns_back r.standing ≡ true → LastOff r.decisions.items None → Due S r r (Done n)
@@ -146,11 +146,11 @@ follows_again {r} {r'} {S} ranks board decisions standing f = (
     settled = λ q. subst (λ (b : Board). settled_len b ≡ trail_len b) (sym board) (f.settled (ap is_contradiction (sym standing) ∙ q));
     stands = subst (StandsAs S (decided_in S r'.decisions.items) (values_of r'.board)) (sym standing)
         (subst (λ (b : Board). StandsAs S (decided_in S r'.decisions.items) (values_of b) r.standing) (sym board)
-          (subst (λ (v : Vec Decision Global). StandsAs S (decided_in S v.items) (values_of r.board) r.standing) (sym decisions) f.stands));
+        (subst (λ (v : Vec Decision Global). StandsAs S (decided_in S v.items) (values_of r.board) r.standing) (sym decisions) f.stands));
   },
   ap (λ (v : Vec ℕ Global). record { standing = all_meant v.items r'.decisions.items; told = is_told r'.standing }) ranks
-  ∙ ap (λ (v : Vec Decision Global). record { standing = all_meant r.ranks.items v.items; told = is_told r'.standing }) decisions
-  ∙ ap (λ (s : Standing). record { standing = all_meant r.ranks.items r.decisions.items; told = is_told s }) standing,
+      ∙ ap (λ (v : Vec Decision Global). record { standing = all_meant r.ranks.items v.items; told = is_told r'.standing }) decisions
+      ∙ ap (λ (s : Standing). record { standing = all_meant r.ranks.items r.decisions.items; told = is_told s }) standing,
 )
 
 module _ (S : Sys) (r mid : Record) (taken : ℕ) (walked : Walked S taken (state_of r) (state_of mid)) where

@@ -1,4 +1,4 @@
-ghost use Rattle.std.specs.Prelude.{◌≡◌, ℕ, false, None, Some, IfOk, MatchResult};
+ghost use Rattle.std.specs.Prelude.{◌≡◌, ◌≤◌, ℕ, false, None, Some, IfOk, MatchResult};
 ghost use Rattle.rules.specs.Forms.{written};
 ghost use Rattle.rules.specs.declared.rule.Rule.{Rule};
 ghost use Rattle.rolls.specs.Rolls.{Surface, surface};
@@ -6,6 +6,7 @@ ghost use Rattle.rle.specs.Back.{ReadsAs};
 ghost use Rattle.rle.specs.Texts.{pattern_text};
 ghost use Rattle.systems.specs.Spaces.{spread, system_of};
 ghost use Rattle.histories.specs.Searches.{fresh};
+ghost use Rattle.search.specs.Answers.{steps_of};
 ghost use Rattle.search.specs.Calls.{Goes, IsOpen, OpenRefused, Writes, find_of, found_by, go_refusal, open_refusal, state_in, tally_answer, text_of, told_by};
 ghost use Rattle.search.specs.Moves.{found_after, tally_after};
 
@@ -69,6 +70,7 @@ impl Search {
         ensures open { (s : Surface) (rule : Rule) (cell : ℕ → ℕ) → IsOpen self.old s rule cell → IsOpen self.new s rule cell }
         ensures goes { (s : Surface) (rule : Rule) (cell : ℕ → ℕ) → IsOpen self.old s rule cell →
             IfOk result (λ answer. Goes (system_of s rule cell) steps self.old self.new answer) }
+        ensures steps { IfOk result (λ answer. steps_of answer ≤ steps) }
         ensures found { IfOk result (λ answer. found_by self.new ≡ found_after false (Some answer)) }
         ensures tally { IfOk result (λ answer. told_by self.new ≡ tally_after (told_by self.old) (Some answer)) }
     {

@@ -17,4 +17,4 @@ returns-clause-follows c S may =
     let made = c.decide.ensures in
     let done = c.settle-standing.ensures in
     follows S old d may c.decide.new.self made.kept made.settled held _ done.kept done.grows done.onward done.same.ranks
-      (search rules) done.settled (done.stands S (may_settle S old d may c.decide.new.self made.kept made.settled held _ refl refl))
+    (search rules) done.settled (done.stands S (may_settle S old d may c.decide.new.self made.kept made.settled held _ refl refl))

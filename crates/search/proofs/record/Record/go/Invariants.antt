@@ -11,5 +11,5 @@ invariant-loop-taken l =
       same : AsOpened l.fn.self l.self;
       found : l.self.found ≡ false;
       tally : l.self.tally ≡ l.fn.self.tally;
-      walked : (S : Sys) → Follows l.fn.self S → Follows l.self S × Walked S l.taken (state_of l.fn.self) (state_of l.self)
+      walked : (S : Sys) → Follows l.fn.self S → Follows l.self S × Walked S l.taken (state_of l.fn.self) (state_of l.self);
     }
