@@ -1,3 +1,5 @@
+ghost use Rattle.std.specs.Prelude.{◌≡◌, ◌++◌};
+
 use listing::{Closed, PAGE_SIZE, Sink, list_page};
 use printing::write_refused;
 use problem::{Problem, read_problem};
@@ -11,6 +13,10 @@ struct Kept {
 }
 
 impl Sink for Kept {
+    ghost takes = { λ old text new. new.bytes.items ≡ old.bytes.items ++ text };
+
+    ghost rests = { λ old new. new ≡ old };
+
     fn take(&mut self, text: &[u8]) -> Result<(), Closed> {
         self.bytes.extend_from_slice(text).map_err(|_| Closed)
     }

@@ -1,15 +1,22 @@
 ghost use Rattle.std.specs.Prelude.{◌≡◌, ℕ, ◌+◌, ◌≤◌, IfOk, vec_len};
+ghost use Rattle.systems.specs.Spaces.{all_instances};
 ghost use Rattle.gathering.specs.Bounds.{EachNames};
+ghost use Rattle.gathering.specs.Rendering.{Classed, SameInstances, bare, kept};
 
 use crate::ground::Ground;
+use planes::Plane;
 use std::alloc::{AllocError, Global};
 use std::collections::HashSet;
 use systems::Instance;
 
 // The instances of every spot, equal ones kept once.
-pub(crate) fn gathered(heap: Global, ground: &Ground) -> Result<Vec<Instance>, AllocError>
+pub(crate) fn gathered<P: Plane>(
+    heap: Global,
+    ground: &Ground<'_, P>,
+) -> Result<Vec<Instance>, AllocError>
     ensures named { IfOk result (λ is. EachNames (vec_len ground.now.classes.now.lowest + 1) is.items) }
     ensures few { IfOk result (λ is. vec_len is ≤ 40000) }
+    ensures rendered { Classed ground.now.frame ground.now.classes.now → IfOk result (λ is. SameInstances is.items (all_instances (bare (P.Plane.means ground.now.plane.now)) (kept ground.now.classes.now))) }
 {
     let mut instances = Vec::new(heap);
     let mut known = HashSet::new(heap);

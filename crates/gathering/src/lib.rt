@@ -4,7 +4,6 @@
 
 mod building;
 mod ground;
-mod looks;
 mod making;
 mod system;
 mod touching;

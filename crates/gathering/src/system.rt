@@ -1,5 +1,6 @@
 ghost use Rattle.std.specs.Prelude.{◌≡◌, ℕ, ◌+◌, ◌<◌, ◌≤◌, vec_len};
 ghost use Rattle.gathering.specs.Bounds.{EachNames, EachUnder};
+ghost use Rattle.gathering.specs.Rendering.{EachNoted};
 
 use systems::Instance;
 
@@ -13,4 +14,5 @@ pub struct System {
     ghost few: { vec_len touching ≤ 4096 },
     ghost named: { EachNames (vec_len touching + 1) instances.items },
     ghost within: { EachUnder (vec_len instances) touching.items },
+    ghost noted: { EachNoted instances.items touching.items },
 }

@@ -32,6 +32,11 @@ impl Printer<'_> {
 }
 
 impl Sink for Printer<'_> {
+    // no contract can speak of what a program prints
+    ghost takes = { λ _ _ _. Unit {0} };
+
+    ghost rests = { λ _ _. Unit {0} };
+
     fn take(&mut self, text: &[u8]) -> Result<(), Closed> {
         if self.held.len() >= HELD {
             self.print()?;

@@ -12,3 +12,19 @@ pub record OnlyBoard (old new : Record) : Type 0 where
   pub standing : new.standing ≡ old.standing
   pub found : new.found ≡ old.found
   pub tally : new.tally ≡ old.tally
+
+-- what opening fixed, and what go alone counts, is the same
+pub record OnlySearch (old new : Record) : Type 0 where
+  pub frame : new.frame ≡ old.frame
+  pub rule : new.rule ≡ old.rule
+  pub classes : new.classes ≡ old.classes
+  pub ranks : new.ranks ≡ old.ranks
+  pub found : new.found ≡ old.found
+  pub tally : new.tally ≡ old.tally
+
+-- what opening fixed is the same
+pub record AsOpened (old new : Record) : Type 0 where
+  pub frame : new.frame ≡ old.frame
+  pub rule : new.rule ≡ old.rule
+  pub classes : new.classes ≡ old.classes
+  pub ranks : new.ranks ≡ old.ranks

@@ -1,4 +1,5 @@
 ghost use Rattle.std.specs.Prelude.{◌≡◌, ℕ, ◌<◌, ◌≤◌, vec_len, vec_capacity, slice_index_or};
+ghost use Rattle.frames.specs.Frames.{cells};
 ghost use Rattle.search.specs.Decided.{first};
 ghost use Rattle.search.specs.declared.standing.Standing.TheVariants.{Choice};
 
@@ -24,6 +25,7 @@ pub struct Record {
     // a later go answered done
     pub(crate) found: bool,
     pub(crate) tally: u64,
+    ghost classed: { vec_len classes.labels ≡ cells frame },
     ghost reserved: { vec_len ranks ≤ vec_capacity decisions },
     ghost rising: { (j : ℕ) → j < vec_len decisions → j ≤ (slice_index_or decisions.items j first).rank },
     ghost ranked: { (j : ℕ) → j < vec_len decisions → (slice_index_or decisions.items j first).rank < vec_len ranks },

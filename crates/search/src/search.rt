@@ -1,5 +1,14 @@
-ghost use Rattle.std.specs.Prelude.{◌≡◌, ℕ, ◌<◌, ◌≤◌, length, None, IfOk, MatchResult, ◌≢◌};
+ghost use Rattle.std.specs.Prelude.{◌≡◌, ◌≤◌, ℕ, false, None, Some, IfOk, MatchResult};
+ghost use Rattle.rules.specs.Forms.{written};
+ghost use Rattle.rules.specs.declared.rule.Rule.{Rule};
+ghost use Rattle.rolls.specs.Rolls.{Surface, surface};
+ghost use Rattle.rle.specs.Back.{ReadsAs};
+ghost use Rattle.rle.specs.Texts.{pattern_text};
+ghost use Rattle.systems.specs.Spaces.{spread, system_of};
+ghost use Rattle.histories.specs.Searches.{fresh};
 ghost use Rattle.search.specs.Answers.{steps_of};
+ghost use Rattle.search.specs.Calls.{Goes, IsOpen, OpenRefused, Writes, find_of, found_by, go_refusal, open_refusal, state_in, tally_answer, text_of, told_by};
+ghost use Rattle.search.specs.Moves.{found_after, tally_after};
 
 use crate::answer::Answer;
 use crate::fault::{GoFault, OpenFault, TallyFault, WriteFault};
@@ -32,7 +41,14 @@ impl Search {
         order: &O,
         rule: &Rule,
     ) -> Result<(), OpenFault>
-        ensures refused { MatchResult result (λ _. self.old.record ≡ None) (λ _. self.new ≡ self.old) }
+        ensures refused { MatchResult result
+            (λ _. open_refusal self.old.record (S.Space.count space.now) ≡ None)
+            (λ fault. OpenRefused (open_refusal self.old.record (S.Space.count space.now)) fault × (self.new ≡ self.old)) }
+        ensures opened { IfOk result (λ _. IsOpen self.new
+            (surface (S.Plane.means space.now) (S.Space.count space.now) (S.Space.tied space.now))
+            rule.now (O.Order.cell_of_rank order.now (S.Plane.means space.now).frame)) }
+        ensures fresh { IfOk result (λ _. state_in self.new ≡ fresh) }
+        ensures untold { IfOk result (λ _. (found_by self.new ≡ false) × (told_by self.new ≡ 0)) }
     {
         if self.record.is_some() {
             return Err(OpenFault::NotBlank);
@@ -48,7 +64,15 @@ impl Search {
     // Goes on for at most `steps` steps, from 1 to 1,000,000: until a find is told, until there is
     // nothing left to tell, or until all steps are taken.
     pub fn go(&mut self, steps: u32) -> Result<Answer, GoFault>
-        ensures steps { MatchResult result (λ a. steps_of a ≤ steps) (λ _. self.new ≡ self.old) }
+        ensures refused { MatchResult result
+            (λ _. go_refusal self.old.record steps ≡ None)
+            (λ fault. (go_refusal self.old.record steps ≡ Some fault) × (self.new ≡ self.old)) }
+        ensures open { (s : Surface) (rule : Rule) (cell : ℕ → ℕ) → IsOpen self.old s rule cell → IsOpen self.new s rule cell }
+        ensures goes { (s : Surface) (rule : Rule) (cell : ℕ → ℕ) → IsOpen self.old s rule cell →
+            IfOk result (λ answer. Goes (system_of s rule cell) steps self.old self.new answer) }
+        ensures steps { IfOk result (λ answer. steps_of answer ≤ steps) }
+        ensures found { IfOk result (λ answer. found_by self.new ≡ found_after false (Some answer)) }
+        ensures tally { IfOk result (λ answer. told_by self.new ≡ tally_after (told_by self.old) (Some answer)) }
     {
         let record = self.record.as_mut().ok_or(GoFault::Blank)?;
         if !(1..=1_000_000).contains(&steps) {
@@ -59,9 +83,13 @@ impl Search {
 
     // Writes the text of the find's first generation into the page from place `at`; answers the
     // place after it. Granted only if the last go answered found.
+    #[tactic(auto, using(crate::proofs::Finds::opened_reads))]
     pub fn write(&self, page: &mut [u8], at: usize) -> Result<usize, WriteFault>
-        ensures granted { MatchResult result (λ _. self.now.record ≢ None) (λ _. page.new ≡ page.old) }
-        ensures within { IfOk result (λ end. end ≤ length page.new) }
+        ensures writes { Writes self.now.record page.old at page.new result }
+        ensures text { (s : Surface) (rule : Rule) (cell : ℕ → ℕ) → IsOpen self.now s rule cell →
+            text_of self.now ≡ pattern_text s.frame.width s.frame.height (written rule.births rule.survivals) (spread s (find_of self.now)) }
+        ensures back { (s : Surface) (rule : Rule) (cell : ℕ → ℕ) → IsOpen self.now s rule cell →
+            ReadsAs s.frame.width s.frame.height (written rule.births rule.survivals) (spread s (find_of self.now)) (text_of self.now) }
     {
         let record = self.record.as_ref().ok_or(WriteFault::Blank)?;
         if !record.found {
@@ -71,7 +99,9 @@ impl Search {
     }
 
     // How many finds were told, up to 2^64 - 1.
-    pub fn tally(&self) -> Result<u64, TallyFault> {
+    pub fn tally(&self) -> Result<u64, TallyFault>
+        ensures { result ≡ tally_answer self.now.record }
+    {
         let record = self.record.as_ref().ok_or(TallyFault::Blank)?;
         Ok(record.tally)
     }

@@ -1,19 +1,34 @@
-ghost use Rattle.std.specs.Prelude.{◌≡◌, ◌≤◌, min};
-ghost use Rattle.settling.specs.Boards.{Kept, settled_len, trail_len};
-ghost use Rattle.settling.specs.Knowing.{Grown};
+ghost use Rattle.std.specs.Prelude.{◌≡◌, ℕ, ◌+◌, ◌<◌, ◌≤◌, List, [], ◌++◌, length, min, MatchResult, OnOk};
+ghost use Rattle.codes.specs.Codes.{is_unknown};
+ghost use Rattle.codes.specs.declared.value.Value.{Value};
+ghost use Rattle.gathering.specs.Systems.{class_count};
+ghost use Rattle.systems.specs.Settling.{Meets, Settles};
+ghost use Rattle.systems.specs.Systems.{Sys, at};
+ghost use Rattle.systems.specs.Trails.{Grows, QuietBut, Trailed, hold};
+ghost use Rattle.settling.specs.Boards.{Kept, Serves, held_of, settled_len, trail_len, trail_of, unsettled_of, values_of};
+ghost use Rattle.settling.specs.Knowing.{Around, Grown, Through};
 
 use crate::board::Board;
 use crate::contradiction::Contradiction;
 use codes::Value;
 
 impl Board {
-    // What is known of a class; nothing is off.
-    pub fn value(&self, class: u16) -> Value {
+    // What is known of a class; nothing is known of one that there is not.
+    pub fn value(&self, class: u16) -> Value
+        ensures { result ≡ at (values_of self.now) class }
+    {
         self.known
             .values
             .get(usize::from(class))
             .copied()
-            .unwrap_or(Value::Off)
+            .unwrap_or(Value::Unknown)
+    }
+
+    // Whether nothing is known of a class.
+    pub fn is_unknown(&self, class: u16) -> bool
+        ensures { result ≡ is_unknown (at (values_of self.now) class) }
+    {
+        matches!(self.value(class), Value::Unknown)
     }
 
     // How many classes are on the trail.
@@ -27,6 +42,9 @@ impl Board {
     pub fn decide(&mut self, class: u16, on: bool)
         ensures kept { Kept self.old self.new }
         ensures longer { trail_len self.old ≤ trail_len self.new }
+        ensures settled { settled_len self.new ≡ settled_len self.old }
+        ensures held { class ≤ class_count self.old.system → held_of self.new ≡ hold class on (held_of self.old) }
+        ensures past { class_count self.old.system < class → held_of self.new ≡ held_of self.old }
     {
         if usize::from(class) < self.known.values.len() {
             self.known.set(class, on);
@@ -38,6 +56,7 @@ impl Board {
         ensures kept { Kept self.old self.new }
         ensures trail { trail_len self.new ≡ min mark (trail_len self.old) }
         ensures settled { settled_len self.new ≡ min mark (settled_len self.old) }
+        ensures back { (σ : List Value) (xs ys : List ℕ) → trail_of self.old ≡ xs ++ ys → length xs ≡ mark → Trailed σ (values_of self.old) ys → (values_of self.new ≡ σ) × (trail_of self.new ≡ xs) }
     {
         self.known.undo(mark);
     }
@@ -46,6 +65,7 @@ impl Board {
     fn examine_around(&mut self, class: u16) -> Result<(), Contradiction>
         ensures kept { Kept self.old self.new }
         ensures grown { Grown self.old.known self.new.known }
+        ensures around { (S : Sys) → Serves self.old S → class < class_count self.old.system → MatchResult result (λ _. Around S class (held_of self.old) (held_of self.new)) (λ _. Meets S (values_of self.old)) }
     {
         let Board {
             system,
@@ -64,19 +84,24 @@ impl Board {
     pub fn settle(&mut self) -> Result<(), Contradiction>
         ensures kept { Kept self.old self.new }
         ensures longer { trail_len self.old ≤ trail_len self.new }
+        ensures grows { Grows (held_of self.old) (held_of self.new) }
+        ensures settled { OnOk result (settled_len self.new ≡ trail_len self.new) }
+        ensures onward { settled_len self.old ≤ settled_len self.new }
+        ensures settles { (S : Sys) → Serves self.old S → QuietBut S (at (values_of self.old)) (unsettled_of self.old) → MatchResult result (λ _. Settles S (values_of self.old) (values_of self.new)) (λ _. Meets S (values_of self.old)) }
     {
         // the trail grows while it is gone through, so no iterator
-        while let Some(class) = self.known.trail.get(self.known.settled).copied() {
+        while let Some(class) = self.known.unsettled() {
             self.examine_around(class)?;
             self.known.settled += 1;
         }
         Ok(())
     }
 
-    // Looks at every instance once, and then settles.
-    pub fn settle_all(&mut self) -> Result<(), Contradiction>
+    // Looks at every instance once.
+    fn examine_all(&mut self) -> Result<(), Contradiction>
         ensures kept { Kept self.old self.new }
-        ensures longer { trail_len self.old ≤ trail_len self.new }
+        ensures grown { Grown self.old.known self.new.known }
+        ensures through { (S : Sys) → Serves self.old S → MatchResult result (λ _. Through S (held_of self.old) (held_of self.new)) (λ _. Meets S (values_of self.old)) }
     {
         let Board {
             system,
@@ -86,6 +111,19 @@ impl Board {
         for instance in system.instances() {
             known.examine(table, instance)?;
         }
+        Ok(())
+    }
+
+    // Looks at every instance once, and then settles.
+    pub fn settle_all(&mut self) -> Result<(), Contradiction>
+        ensures kept { Kept self.old self.new }
+        ensures longer { trail_len self.old ≤ trail_len self.new }
+        ensures grows { Grows (held_of self.old) (held_of self.new) }
+        ensures settled { OnOk result (settled_len self.new ≡ trail_len self.new) }
+        ensures onward { settled_len self.old ≤ settled_len self.new }
+        ensures settles { (S : Sys) → Serves self.old S → trail_of self.old ≡ [] → MatchResult result (λ _. Settles S (values_of self.old) (values_of self.new)) (λ _. Meets S (values_of self.old)) }
+    {
+        self.examine_all()?;
         self.settle()
     }
 }

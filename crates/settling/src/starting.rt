@@ -1,5 +1,11 @@
-ghost use Rattle.std.specs.Prelude.{◌≡◌, ℕ, ◌+◌, ◌<◌, ◌≤◌, IfOk, vec_len};
-ghost use Rattle.settling.specs.Boards.{trail_len};
+ghost use Rattle.std.specs.Prelude.{◌≡◌, ℕ, ◌+◌, ◌<◌, ◌≤◌, List, [], ◌∷◌, ◌++◌, map, IfOk, slice_index_or, vec_len};
+ghost use Rattle.std.specs.List.{range_with_len};
+ghost use Rattle.rules.specs.Answers.{answer};
+ghost use Rattle.codes.specs.Tables.{code_at, code_in};
+ghost use Rattle.classes.specs.Asked.{unasked};
+ghost use Rattle.systems.specs.Spaces.{first_value, start_of};
+ghost use Rattle.gathering.specs.Systems.{class_count};
+ghost use Rattle.settling.specs.Boards.{settled_len, trail_of, values_of};
 
 use crate::board::Board;
 use crate::known::Known;
@@ -11,7 +17,9 @@ use std::alloc::{AllocError, Global};
 use std::iter;
 
 // What is known of a class from the start. A torn class is known too: it is off.
-fn first_value(musts: Musts) -> Value {
+fn first_value(musts: Musts) -> Value
+    ensures { result ≡ first_value musts }
+{
     if musts.off {
         Value::Off
     } else if musts.on {
@@ -24,7 +32,8 @@ fn first_value(musts: Musts) -> Value {
 // What is known of each class from the start, and of nothing, which is off.
 fn first_values(heap: Global, classes: &Classes, count: usize) -> Result<Vec<Value>, AllocError>
     requires { count ≤ 4096 }
-    ensures { IfOk result (λ v. vec_len v ≡ count + 1) }
+    ensures len { IfOk result (λ v. vec_len v ≡ count + 1) }
+    ensures values { IfOk result (λ v. v.items ≡ map (λ class. first_value (slice_index_or classes.now.musts.items class unasked)) (range_with_len 0 count) ++ Value.Off ∷ []) }
 {
     (0..count)
         .map(|class| first_value(classes.musts(class)))
@@ -41,7 +50,10 @@ impl Board {
         classes: &Classes,
     ) -> Result<Board, AllocError>
         ensures system { IfOk result (λ b. b.system ≡ system) }
-        ensures trail { IfOk result (λ b. trail_len b ≡ 0) }
+        ensures table { IfOk result (λ b. (n : ℕ) → code_in b.table n ≡ code_at (answer rule.now) n) }
+        ensures trail { IfOk result (λ b. trail_of b ≡ []) }
+        ensures settled { IfOk result (λ b. settled_len b ≡ 0) }
+        ensures values { IfOk result (λ b. class_count system ≡ vec_len classes.now.lowest → values_of b ≡ start_of classes.now.musts.items) }
     {
         let count = system.classes();
         let known = Known {

@@ -1,6 +1,6 @@
-use Rattle.std.proofs.Common.{length, vec_items}
-use Rattle.gathering.specs.Bounds.{Under}
+use Rattle.std.proofs.Common.{vec_items}
+use Rattle.gathering.proofs.Noting.{Begun}
 use Rattle.gathering.proofs.touching.touching.Given as goal
 
 abbrev pub invariant-loop-number : goal.invariant-loop-number
-invariant-loop-number l = Under (length l.instances) (vec_items l.numbers)
+invariant-loop-number l = Begun l.instances l.class l.number (vec_items l.numbers)

@@ -1,0 +1,8 @@
+mod Calls
+mod Decided
+pub mod Finds
+mod Opened
+mod Ranks
+mod Settled
+mod Turned
+mod Walks
