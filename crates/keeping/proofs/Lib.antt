@@ -1,0 +1,3 @@
+pub mod Firsts
+pub mod Looks
+pub mod Grown
