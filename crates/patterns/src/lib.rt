@@ -1,0 +1,11 @@
+// What an RLE text tells when it is read whole, and where its pattern lies in a box.
+#![tactic(auto)]
+
+mod fault;
+mod laying;
+mod pattern;
+mod reading;
+
+pub use fault::PatternFault;
+pub use laying::laid;
+pub use pattern::Pattern;
