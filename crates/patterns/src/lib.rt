@@ -2,10 +2,12 @@
 #![tactic(auto)]
 
 mod fault;
+mod laws;
 mod laying;
 mod pattern;
 mod reading;
 
 pub use fault::PatternFault;
+pub use laws::telling_stands;
 pub use laying::laid;
 pub use pattern::Pattern;
