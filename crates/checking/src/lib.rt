@@ -3,6 +3,8 @@
 
 mod fault;
 mod judging;
+mod laws;
 
 pub use fault::{CheckFault, RuleAt};
 pub use judging::check;
+pub use laws::{accepting_stands, refusing_stands, roll_stands};

@@ -156,7 +156,7 @@ too_long text t h is =
     no_part (length text) [] (Failed TooLong) [] blank t TooLong [] refl (sym start ∙ is)
 
 -- what is told of a text that is read to its end
-whole : (text : List ℕ) (items : List Part) (remarks : List (List ℕ)) (w h : ℕ) (rule : Option (List ℕ)) (runs : List Run) → length text ≤ 65536 → Finishes Opening text items → Given remarks w h rule runs items → (t : Told) × (told text ≡ Ok t) × Parts t w h rule runs
+pub whole : (text : List ℕ) (items : List Part) (remarks : List (List ℕ)) (w h : ℕ) (rule : Option (List ℕ)) (runs : List Run) → length text ≤ 65536 → Finishes Opening text items → Given remarks w h rule runs items → (t : Told) × (told text ≡ Ok t) × Parts t w h rule runs
 whole text items remarks w h rule runs short f g =
     let all = text_told f (length text + 1) text blank remarks g.line g.head runs g.items_are (omega arith) in
     let parts = all.2 in
