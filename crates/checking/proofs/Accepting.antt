@@ -43,7 +43,7 @@ is_named : (r : Rule) (text : List ℕ) → text ≡ written r.births r.survival
 is_named r text e = ap parsed e ∙ forms_stand.0 r.births r.survivals r.few_births r.few_survivals r.quiet
 
 -- a text that suits comes to its cells
-to_cells : (s : Surface) (r : Rule) (text : List ℕ) (t : Told) → Suits s r text t → checked s r text ≡ kept s r (laid s.frame t.runs)
+pub to_cells : (s : Surface) (r : Rule) (text : List ℕ) (t : Told) → Suits s r text t → checked s r text ≡ kept s r (laid s.frame t.runs)
 to_cells s r text t u =
     let few : nat_lt 8 s.rows ≡ false = le-ltb 8 s.rows u.few in
     let named = is_named r (rule_text t.rule) u.named in

@@ -1,3 +1,4 @@
+ghost use Rattle.checking.specs.Examples.{ChecksWorked};
 ghost use Rattle.checking.specs.Laws.{AcceptingLaws, RefusingLaws, RollLaws};
 
 // A text that meets no other refusal is accepted exactly when its pattern keeps the rule, the drift and the
@@ -16,4 +17,9 @@ pub fn refusing_stands()
 // of accepted texts; the text that is written of a member is accepted.
 pub fn roll_stands()
     ensures { RollLaws }
+{}
+
+// The worked examples of checking stand.
+pub fn worked_checks_stand()
+    ensures { ChecksWorked }
 {}

@@ -7,4 +7,4 @@ mod laws;
 
 pub use fault::{CheckFault, RuleAt};
 pub use judging::check;
-pub use laws::{accepting_stands, refusing_stands, roll_stands};
+pub use laws::{accepting_stands, refusing_stands, roll_stands, worked_checks_stand};
