@@ -1,5 +1,5 @@
 -- What a check comes to, and its line.
-use Rattle.std.specs.Prelude.{ℕ, List, [], ◌∷◌, ◌++◌, Some, None, Option, codes, decimal}
+use Rattle.std.specs.Prelude.{ℕ, List, [], ◌∷◌, ◌++◌, Some, None, Ok, Err, Option, Result, codes, decimal}
 use Rattle.std.specs.Fmt.{signed_decimal}
 use Rattle.checking.specs.declared.fault.CheckFault.{CheckFault}
 use Rattle.checking.specs.declared.fault.CheckFault.TheVariants.{Rows, Read, Rule, OtherRule, Size, Instance, Tie, Memory}
@@ -28,6 +28,16 @@ with_number place (Some n) = Some (record { number = n; place = place })
 
 abbrev pub refusal_of : CheckFault → Option Refusal
 refusal_of fault = with_number (place_of fault) (number_of fault)
+
+-- a refusal is a verdict
+abbrev pub refused_by : Option Refusal → Option Verdict
+refused_by None = None
+refused_by (Some r) = Some (Refused r)
+
+-- what an answer of a check comes to
+abbrev pub verdict_of : {A : Type 0} → Result A CheckFault → Option Verdict
+verdict_of (Ok first) = Some Accepted
+verdict_of (Err fault) = refused_by (refusal_of fault)
 
 -- the numbers of a place, each after a blank
 abbrev pub place_text : Place → List ℕ

@@ -1,4 +1,4 @@
-ghost use Rattle.verdicts.specs.Verdicts.{place_of, refusal_of};
+ghost use Rattle.verdicts.specs.Verdicts.{place_of, refusal_of, verdict_of};
 ghost use Rattle.std.specs.Prelude.{◌≡◌};
 
 use checking::CheckFault;
@@ -60,5 +60,17 @@ impl Refusal {
             number,
             place: place_of(fault),
         })
+    }
+}
+
+impl Verdict {
+    // The verdict of a check's answer; none where memory is wanting.
+    pub fn of<T>(answer: &Result<T, CheckFault>) -> Option<Verdict>
+        ensures { result ≡ verdict_of answer.now }
+    {
+        match answer {
+            Ok(_) => Some(Verdict::Accepted),
+            Err(fault) => Some(Verdict::Refused(Refusal::of(fault)?)),
+        }
     }
 }
