@@ -26,7 +26,9 @@ impl<'a> Case<'a> {
         let mirror = words.next().unwrap_or("");
         let rule = words.next().unwrap_or("");
         let verdict = words.next().unwrap_or("");
-        let problem = format!(in heap; "rule {rule}\nbox {width} {height} {period} {dx} {dy}\nspace {space}\norder rows\nmirror {mirror}\n")?;
+        let problem = format!(in heap;
+            "rule {rule}\nbox {width} {height} {period} {dx} {dy}\nspace {space}\norder rows\nmirror {mirror}\n"
+        )?;
         let printed = format!(in heap; "{name}: {verdict}\n")?;
         Ok(Case {
             name,
