@@ -8,11 +8,11 @@ use Rattle.rle.specs.declared.mark.Run.{Run}
 use Rattle.rle.specs.declared.phase.Cursor.{Cursor}
 use Rattle.rle.specs.declared.phase.Phase.{Phase}
 use Rattle.rle.specs.declared.phase.Phase.TheVariants.{Opening, Body, Failed}
-use Rattle.rle.specs.Items.{Head, Part, Taken, remark, header, run, ending, Finishes, ends, goes, run_items, items_of, item_start, read_item, body_item, opening_item}
+use Rattle.rle.specs.Items.{Head, Part, Taken, remark, header, run, ending, Finishes, ends, goes, Stops, here, later, run_items, items_of, item_start, read_item, body_item, opening_item}
 use Rattle.rle.specs.Laws.{Readable, Given}
 use Rattle.rle.specs.Runs.{letter_of}
 use Rattle.rle.specs.Scans.{Scan, good, bad, past, space}
-use Rattle.rle.specs.Spots.{spot_before}
+use Rattle.rle.specs.Spots.{corner, spot_before, spot_past}
 use Rattle.rle.proofs.Bodies.{BodyView, over, ran_on, misplaced, faulty, body_view}
 use Rattle.rle.proofs.Openings.{open_view}
 use Rattle.rle.proofs.Pasts.{past_split}
@@ -20,7 +20,7 @@ use Rattle.rle.proofs.Reading.{is_opened, took_part, reads_every, reads_only}
 use Rattle.reader.specs.Calls.{answer_of, fault_at, stand_after, readable, first_phase}
 use Rattle.reader.specs.Shown.{told_part}
 use Rattle.patterns.specs.Told.{Told, told, told_on, unless_fault, blank}
-use Rattle.patterns.specs.Laws.{Parts, TellingLaws}
+use Rattle.patterns.specs.Laws.{FaultAt, Faulty, Parts, TellingLaws}
 
 -- an item of the body that is read takes a byte
 shorter_body : (c : Cursor) (t : List ℕ) (x : Part) (q : Phase) (rest : List ℕ) (s : Scan Taken) → BodyView c t s → s ≡ good (record { part = x; phase = q }) rest → (x ≡ ending → ⊥) → length rest < length t
@@ -123,12 +123,14 @@ part_finishes n text p t s r h ind (run m) q rest e is =
     let more = ind q rest _ (omega (arith, shorter p t (run m) q rest e other, h)) (sym (step n text s p t (run m) q rest e) ∙ is) in
     (run m ∷ more.0, goes q rest e other more.1)
 
--- at a fault nothing is told
-no_part : (n : ℕ) (text : List ℕ) (p : Phase) (t : List ℕ) (s r : Told) (cause : ReadCause) (at : List ℕ) → read_item p t ≡ bad cause at → told_on (suc n) text (record { rest = t; phase = p }) s ≡ Ok r → ⊥
+-- at a fault the fault is told, where its bytes start
+step_bad : (n : ℕ) (text : List ℕ) (s : Told) (p : Phase) (t : List ℕ) (cause : ReadCause) (at : List ℕ) → read_item p t ≡ bad cause at → told_on (suc n) text (record { rest = t; phase = p }) s ≡ Err (fault_at (spot_before text at) cause)
 unfolding told_on
+step_bad n text s p t cause at e = ap (λ z. unless_fault s (told_on n text (stand_after z)) (answer_of text (item_start p t) z)) e
+
+no_part : (n : ℕ) (text : List ℕ) (p : Phase) (t : List ℕ) (s r : Told) (cause : ReadCause) (at : List ℕ) → read_item p t ≡ bad cause at → told_on (suc n) text (record { rest = t; phase = p }) s ≡ Ok r → ⊥
 no_part n text p t s r cause at e is =
-    let fault : told_on (suc n) text (record { rest = t; phase = p }) s ≡ Err (fault_at (spot_before text at) cause) = ap (λ z. unless_fault s (told_on n text (stand_after z)) (answer_of text (item_start p t) z)) e in
-    let both : ◌≡◌ {A = Result Told ReadFault} (Err (fault_at (spot_before text at) cause)) (Ok r) = sym fault ∙ is in
+    let both : ◌≡◌ {A = Result Told ReadFault} (Err (fault_at (spot_before text at) cause)) (Ok r) = sym (step_bad n text s p t cause at e) ∙ is in
     cc
 
 scan_finishes : (n : ℕ) (text : List ℕ) (p : Phase) (t : List ℕ) (s r : Told) → length t < suc n → ((p : Phase) (t : List ℕ) (s : Told) → length t < n → told_on n text (record { rest = t; phase = p }) s ≡ Ok r → (xs : List Part) × Finishes p t xs) → (z : Scan Taken) → read_item p t ≡ z → told_on (suc n) text (record { rest = t; phase = p }) s ≡ Ok r → (xs : List Part) × Finishes p t xs
@@ -146,14 +148,16 @@ opened text h =
     let begin : first_phase text ≡ Opening = cond-true (nat_le (length text) 65536) Opening (Failed TooLong) (le-leb (length text) 65536 h) in
     (λ i. told_on (length text + 1) (all i) (record { rest = all i; phase = begin i }) blank)
 
--- one that is too long tells nothing
-too_long : (text : List ℕ) (t : Told) → 65536 < length text → told text ≡ Ok t → ⊥
-unfolding read_item
-too_long text t h is =
+-- one that is too long is at fault before its first byte
+told_too_long : (text : List ℕ) → 65536 < length text → told text ≡ Err (fault_at corner TooLong)
+unfolding read_item told_on spot_past
+told_too_long text h =
     let none : readable text ≡ [] = cond-false (nat_le (length text) 65536) text [] (lt-leb (length text) 65536 h) in
     let begin : first_phase text ≡ Failed TooLong = cond-false (nat_le (length text) 65536) Opening (Failed TooLong) (lt-leb (length text) 65536 h) in
-    let start : told text ≡ told_on (suc (length text)) [] (record { rest = []; phase = Failed TooLong }) blank = (λ i. told_on (add-one (length text) i) (none i) (record { rest = none i; phase = begin i }) blank) in
-    no_part (length text) [] (Failed TooLong) [] blank t TooLong [] refl (sym start ∙ is)
+    (λ i. told_on (add-one (length text) i) (none i) (record { rest = none i; phase = begin i }) blank)
+
+too_long : (text : List ℕ) (t : Told) → 65536 < length text → told text ≡ Ok t → ⊥
+too_long text t h is = let both : ◌≡◌ {A = Result Told ReadFault} (Err (fault_at corner TooLong)) (Ok t) = sym (told_too_long text h) ∙ is in cc
 
 -- what is told of a text that is read to its end
 pub whole : (text : List ℕ) (items : List Part) (remarks : List (List ℕ)) (w h : ℕ) (rule : Option (List ℕ)) (runs : List Run) → length text ≤ 65536 → Finishes Opening text items → Given remarks w h rule runs items → (t : Told) × (told text ≡ Ok t) × Parts t w h rule runs
@@ -183,5 +187,40 @@ only_told text t is =
       | inr more ↦ absurd (too_long text t (omega arith) is)
     ]
 
+-- what is told as a fault is the first of the items, at its place
+part_stops : (n : ℕ) (text : List ℕ) (p : Phase) (t : List ℕ) (s : Told) (fault : ReadFault) → length t < suc n → ((p : Phase) (t : List ℕ) (s : Told) → length t < n → told_on n text (record { rest = t; phase = p }) s ≡ Err fault → FaultAt text p t fault) → (x : Part) (q : Phase) (rest : List ℕ) → read_item p t ≡ good (record { part = x; phase = q }) rest → told_on (suc n) text (record { rest = t; phase = p }) s ≡ Err fault → FaultAt text p t fault
+part_stops n text p t s fault h ind ending q rest e is = (let both : ◌≡◌ {A = Result Told ReadFault} (Ok s) (Err fault) = sym (step n text s p t ending q rest e) ∙ is in cc)
+part_stops n text p t s fault h ind (remark l) q rest e is =
+    let other : remark l ≡ ending → ⊥ = λ z. cc in
+    let more = ind q rest s (omega (arith, shorter p t (remark l) q rest e other, h)) (sym (step n text s p t (remark l) q rest e) ∙ is) in
+    (more.0, later (remark l) q rest e more.1, more.2)
+part_stops n text p t s fault h ind (header l head) q rest e is =
+    let other : header l head ≡ ending → ⊥ = λ z. cc in
+    let more = ind q rest _ (omega (arith, shorter p t (header l head) q rest e other, h)) (sym (step n text s p t (header l head) q rest e) ∙ is) in
+    (more.0, later (header l head) q rest e more.1, more.2)
+part_stops n text p t s fault h ind (run m) q rest e is =
+    let other : run m ≡ ending → ⊥ = λ z. cc in
+    let more = ind q rest _ (omega (arith, shorter p t (run m) q rest e other, h)) (sym (step n text s p t (run m) q rest e) ∙ is) in
+    (more.0, later (run m) q rest e more.1, more.2)
+
+scan_stops : (n : ℕ) (text : List ℕ) (p : Phase) (t : List ℕ) (s : Told) (fault : ReadFault) → length t < suc n → ((p : Phase) (t : List ℕ) (s : Told) → length t < n → told_on n text (record { rest = t; phase = p }) s ≡ Err fault → FaultAt text p t fault) → (z : Scan Taken) → read_item p t ≡ z → told_on (suc n) text (record { rest = t; phase = p }) s ≡ Err fault → FaultAt text p t fault
+scan_stops n text p t s fault h ind (good taken rest) e is = part_stops n text p t s fault h ind taken.part taken.phase rest e is
+scan_stops n text p t s fault h ind (bad cause at) e is =
+    let both : ◌≡◌ {A = Result Told ReadFault} (Err (fault_at (spot_before text at) cause)) (Err fault) = sym (step_bad n text s p t cause at e) ∙ is in
+    let same : fault_at (spot_before text at) cause ≡ fault = cc in
+    let which : cause ≡ fault.cause = ap (λ (f : ReadFault). f.cause) same in
+    (at, subst (λ k. Stops p t k at) which (here e), sym same ∙ ap (fault_at (spot_before text at)) which)
+
+stops_told : (n : ℕ) (text : List ℕ) (p : Phase) (t : List ℕ) (s : Told) (fault : ReadFault) → length t < n → told_on n text (record { rest = t; phase = p }) s ≡ Err fault → FaultAt text p t fault
+stops_told zero text p t s fault h is = absurd (omega arith)
+stops_told (suc n) text p t s fault h is = scan_stops n text p t s fault h (λ p' t' s'. stops_told n text p' t' s' fault) (read_item p t) refl is
+
+faults_told : (text : List ℕ) (fault : ReadFault) → told text ≡ Err fault → Faulty text fault
+faults_told text fault is =
+    elim (cases_lt (length text) 65537) [
+      | inl less ↦ inr (omega arith, stops_told (length text + 1) text Opening text blank fault (omega arith) (sym (opened text (omega arith)) ∙ is))
+      | inr more ↦ inl (omega arith, (let both : ◌≡◌ {A = Result Told ReadFault} (Err (fault_at corner TooLong)) (Err fault) = sym (told_too_long text (omega arith)) ∙ is in cc))
+    ]
+
 pub telling_right : TellingLaws
-telling_right = record { every = every_told; only = only_told }
+telling_right = record { every = every_told; only = only_told; faulty = faults_told }
