@@ -1,7 +1,7 @@
 -- What is accepted is what begins a member of the roll.
 use Rattle.std.proofs.Common.{◌≡◌, ℕ, ◌+◌, ◌*◌, ◌/◌, ◌%◌, ◌<◌, ◌≤◌, Bool, true, false, cond, ◌||◌, List, [], length, take, Some, None, Ok, Err, Option, Result, nat_lt, sym, refl, ap, ◌∙◌, subst, mul_comm, arith}
 use Rattle.std.proofs.Math.Nat.{le-mul_of_pos_right}
-use Rattle.std.proofs.lemmas.Bool.{both_ways, cond-true, cond-false, and_parts, and_from, eq-eqb, eqb-true, le-ltb, ltb-false}
+use Rattle.std.proofs.lemmas.Bool.{both_ways, cond-true, cond-false, and_parts, and_from, eq-eqb, eqb-true, le-ltb, ltb-true, ltb-false}
 use Rattle.std.proofs.lemmas.List.{ext_get_or, get_or-take, length-take-le}
 use Rattle.std.proofs.lemmas.List.FromFn.{get_or-map-range_with_len, length-range_with_len}
 use Rattle.std.proofs.lemmas.Nat.{mod_below, div_below, div-add-mod'}
@@ -24,9 +24,10 @@ use Rattle.keeping.specs.declared.places.InstanceAt.{InstanceAt}
 use Rattle.keeping.specs.declared.places.TieAt.{TieAt}
 use Rattle.keeping.proofs.Broken.{asking_right}
 use Rattle.keeping.proofs.Following.{working_right}
+use Rattle.patterns.specs.Laws.{Faulty}
 use Rattle.patterns.specs.Laid.{laid}
 use Rattle.patterns.specs.Told.{Told, told}
-use Rattle.patterns.proofs.Whole.{whole}
+use Rattle.patterns.proofs.Whole.{telling_right, whole}
 use Rattle.checking.specs.Checked.{checked, judged, ruled, ruled_by, sized, kept, held, after, are_of, rule_text}
 use Rattle.checking.specs.Laws.{FirstOf, Suits, AcceptingLaws, RefusingLaws, RollLaws}
 use Rattle.checking.specs.declared.fault.CheckFault.{CheckFault}
@@ -112,6 +113,62 @@ from_cells s r text x e c =
       size.1,
     )
 
+-- no question after the reading answers a fault of the text, or of the space
+NoRead : Result (List Bool) CheckFault → Type 0
+NoRead (Ok first) = Unit {0}
+NoRead (Err Rows) = ⊥
+NoRead (Err (Read fault)) = ⊥
+NoRead (Err (RuleFaulty fault)) = Unit {0}
+NoRead (Err OtherRule) = Unit {0}
+NoRead (Err Size) = Unit {0}
+NoRead (Err (Instance at)) = Unit {0}
+NoRead (Err (Tie at)) = Unit {0}
+NoRead (Err (Memory e)) = Unit {0}
+
+held_later : (first : List Bool) (o : Option TieAt) (i : Option InstanceAt) → NoRead (held first o i)
+unfolding NoRead
+held_later first None None = tt
+held_later first (Some at) None = tt
+held_later first o (Some at) = tt
+
+size_later : (b : Bool) (next : Result (List Bool) CheckFault) → NoRead next → NoRead (after (cond b (Err Size) (Ok tt)) next)
+unfolding NoRead
+size_later true next h = tt
+size_later false next h = h
+
+other_later : (b : Bool) (next : Result (List Bool) CheckFault) → NoRead next → NoRead (after (cond b (Ok tt) (Err OtherRule)) next)
+unfolding NoRead
+other_later true next h = h
+other_later false next h = tt
+
+rule_later : (r : Rule) (t : Told) (n : Result Sets RuleFault) (next : Result (List Bool) CheckFault) → NoRead next → NoRead (after (ruled_by r t n) next)
+unfolding NoRead
+rule_later r t (Err cause) next h = tt
+rule_later r t (Ok named) next h = other_later (are_of r named) next h
+
+judged_later : (s : Surface) (r : Rule) (t : Told) → NoRead (judged s r (Ok t))
+judged_later s r t =
+    rule_later r t (parsed (rule_text t.rule)) _
+    (size_later (nat_lt s.frame.width t.width || nat_lt s.frame.height t.height) (kept s r (laid s.frame t.runs)) (held_later (laid s.frame t.runs) _ _))
+
+judged_rows : (s : Surface) (r : Rule) (z : Result Told ReadFault) → judged s r z ≡ Err Rows → ⊥
+unfolding NoRead
+judged_rows s r (Err fault) e = cc
+judged_rows s r (Ok t) e = subst NoRead e (judged_later s r t)
+
+judged_read : (s : Surface) (r : Rule) (fault : ReadFault) (z : Result Told ReadFault) → judged s r z ≡ Err (Read fault) → z ≡ Err fault
+unfolding NoRead
+judged_read s r fault (Err other) e = cc
+judged_read s r fault (Ok t) e = absurd (subst NoRead e (judged_later s r t))
+
+rows_told : (s : Surface) (r : Rule) (text : List ℕ) (b : Bool) → nat_lt 8 s.rows ≡ b → cond b (Err Rows) (judged s r (told text)) ≡ Err Rows → 8 < s.rows
+rows_told s r text true few e = ltb-true 8 s.rows few
+rows_told s r text false few e = absurd (judged_rows s r (told text) e)
+
+reading_told : (s : Surface) (r : Rule) (text : List ℕ) (fault : ReadFault) (b : Bool) → nat_lt 8 s.rows ≡ b → cond b (Err Rows) (judged s r (told text)) ≡ Err (Read fault) → (s.rows ≤ 8) × Faulty text fault
+reading_told s r text fault true few e = cc
+reading_told s r text fault false few e = (ltb-false 8 s.rows few, telling_right.faulty text fault (judged_read s r fault (told text) e))
+
 -- what the answer about the cells says
 held_ok : (first f : List Bool) (o : Option TieAt) (i : Option InstanceAt) → held first o i ≡ Ok f → (first ≡ f) × (o ≡ None) × (i ≡ None)
 held_ok first f None None e = (cc, refl, refl)
@@ -157,6 +214,8 @@ accepting_right = record {
 pub refusing_right : RefusingLaws
 unfolding Cells
 refusing_right = record {
+  rows = λ s r text e. rows_told s r text (nat_lt 8 s.rows) refl e;
+  reading = λ s r text fault e. reading_told s r text fault (nat_lt 8 s.rows) refl e;
   instance = λ s r text b e.
       let w = from_cells s r text (Err (Instance b)) e tt in
       let t = w.0 in

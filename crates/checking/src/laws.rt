@@ -7,8 +7,8 @@ pub fn accepting_stands()
     ensures { AcceptingLaws }
 {}
 
-// What is told of a text that is not accepted for its cells is the first instance that does not hold, or
-// where all hold the first tie.
+// A fault of the text is one that a reader comes to, and what is told of a text that is not accepted for
+// its cells is the first instance that does not hold, or where all hold the first tie.
 pub fn refusing_stands()
     ensures { RefusingLaws }
 {}
