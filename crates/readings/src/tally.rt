@@ -1,3 +1,6 @@
+// `cases` counts in the same way: a crate of its own for it, with its contracts, would be longer than what
+// it saves.
+
 use std::{fmt, fs};
 
 // How many cases agree, and how many differ.
