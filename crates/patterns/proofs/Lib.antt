@@ -1,0 +1,3 @@
+pub mod Covering
+pub mod Telling
+pub mod Whole

@@ -1,0 +1,52 @@
+-- One call of the reader is one item of what is told.
+use Rattle.std.proofs.Common.{◌≡◌, ℕ, suc, ◌+◌, ◌-◌, ◌<◌, ◌≤◌, List, Ok, Err, Result, sym, ap, ◌∙◌, refl, subst, arith}
+use Rattle.std.specs.Result.{IsErrAnd}
+use Rattle.patterns.specs.declared.fault.PatternFault.{PatternFault}
+use Rattle.patterns.specs.declared.fault.PatternFault.TheVariants.{Read}
+use Rattle.patterns.specs.declared.pattern.Pattern.{Pattern}
+use Rattle.rle.specs.declared.fault.ReadFault.{ReadFault}
+use Rattle.rle.specs.Items.{item_start, read_item}
+use Rattle.reader.specs.Calls.{Answered, LocatedShown, Stand, answer_of, shown_answer, standing}
+use Rattle.reader.specs.Left.{left}
+use Rattle.reader.specs.Shown.{shown_item}
+use Rattle.reader.specs.declared.item.Item.{Item}
+use Rattle.reader.specs.declared.item.Item.TheVariants.{Remark, Heading, Run, End}
+use Rattle.reader.specs.declared.item.Located.{Located}
+use Rattle.reader.specs.declared.reader.Reader.{Reader}
+use Rattle.patterns.specs.Told.{Tells, Told, told, told_on, unless_fault, unless_over, with_item}
+
+-- one call
+pub told_call : (n : ℕ) (text : List ℕ) (t : Told) (old new : Reader) (r : Result Located ReadFault) → Answered old new r → old.text.now ≡ text → told_on (suc n) text (standing old) t ≡ unless_fault t (told_on n text (standing new)) (shown_answer r)
+unfolding told_on
+told_call n text t old new r a same =
+    let start = item_start old.phase (left old) in
+    let scan = read_item old.phase (left old) in
+    let answer = a.answer ∙ ap (λ x. answer_of x start scan) same in
+    let stands = sym a.stands in
+    let told = sym answer in
+    (λ i. unless_fault t (told_on n text (stands i)) (told i))
+
+-- an item that is not the end is taken in, and reading goes on
+pub goes_on : (t : Told) (next : Told → Result Told ReadFault) (line : ℕ) (l : LocatedShown) (i : Item) → l.spot.line ≡ line → l.item ≡ shown_item i → (i ≡ End → ⊥) → unless_over t next l (shown_item i) ≡ next (with_item t line (shown_item i))
+goes_on t next line l (Remark bytes) e f other = (λ k. next (with_item t (e k) (f k)))
+goes_on t next line l (Heading h) e f other = (λ k. next (with_item t (e k) (f k)))
+goes_on t next line l (Run r) e f other = (λ k. next (with_item t (e k) (f k)))
+goes_on t next line l End e f other = absurd (other refl)
+
+-- a fault is told as it is
+pub tells_fault : (text : List ℕ) (fault : ReadFault) (r : Result Pattern PatternFault) → told text ≡ Err fault → IsErrAnd r (λ e. e ≡ Read fault) → Tells text r
+tells_fault text fault (Ok p) e h = absurd h
+tells_fault text fault (Err x) e h = subst (λ x. Tells text (Err x)) (sym h) e
+
+-- as many items as there are bytes, and one more
+pub one_less : (n i : ℕ) → i < n → n - i ≡ suc (n - (i + 1))
+one_less n i h = omega arith
+
+-- at the end nothing more is told
+pub over_now : (t : Told) (next : Told → Result Told ReadFault) (l : LocatedShown) (i : Item) → i ≡ End → unless_over t next l (shown_item i) ≡ Ok t
+over_now t next l i e = ap (λ k. unless_over t next l (shown_item k)) e
+
+-- nor when no item may come any more
+pub none_left : (n i : ℕ) (text : List ℕ) (s : Stand) (t : Told) → n ≤ i → told_on (n - i) text s t ≡ Ok t
+unfolding told_on
+none_left n i text s t h = let none : n - i ≡ 0 = omega arith in ap (λ k. told_on k text s t) none

@@ -1,0 +1,34 @@
+-- The law of what a text tells, in the words of the grammar.
+use Rattle.std.specs.Prelude.{◌≡◌, ℕ, ◌<◌, ◌≤◌, ◌⊎◌, List, length, Ok, Err, Option}
+use Rattle.rle.specs.declared.fault.ReadCause.TheVariants.{TooLong}
+use Rattle.rle.specs.declared.fault.ReadFault.{ReadFault}
+use Rattle.rle.specs.declared.mark.Run.{Run}
+use Rattle.rle.specs.declared.phase.Phase.{Phase}
+use Rattle.rle.specs.declared.phase.Phase.TheVariants.{Opening}
+use Rattle.rle.specs.Items.{Stops}
+use Rattle.rle.specs.Spots.{corner, spot_before}
+use Rattle.reader.specs.Calls.{fault_at}
+use Rattle.rle.specs.Laws.{Readable}
+use Rattle.patterns.specs.Told.{Told, told}
+
+-- what is told are these sizes, this rule and these runs
+pub record Parts (t : Told) (w h : ℕ) (rule : Option (List ℕ)) (runs : List Run) : Type 0 where
+  pub width : t.width ≡ w
+  pub height : t.height ≡ h
+  pub named : t.rule ≡ rule
+  pub marked : t.runs ≡ runs
+
+-- a reader that stands in a phase before the rest of a text comes to this fault, which stands where the bytes from the fault on start
+abbrev pub FaultAt : List ℕ → Phase → List ℕ → ReadFault → Type 0
+FaultAt text p t fault = (at : List ℕ) × Stops p t fault.cause at × (fault ≡ fault_at (spot_before text at) fault.cause)
+
+-- a text is at fault: it is too long, which stands at its first byte, or a reader comes to this fault
+abbrev pub Faulty : List ℕ → ReadFault → Type 0
+Faulty text fault = ((65536 < length text) × (fault ≡ fault_at corner TooLong)) ⊎ ((length text ≤ 65536) × FaultAt text Opening text fault)
+
+-- a text of at most 65,536 bytes that is of the grammar, whose sizes are at most 32 and whose runs lie in its box, tells its parts;
+-- no other text tells anything, and what is told in its place is its fault
+pub record TellingLaws : Type 0 where
+  pub every : (remarks : List (List ℕ)) (w h : ℕ) (rule : Option (List ℕ)) (runs : List Run) (text : List ℕ) → length text ≤ 65536 → Readable remarks w h rule runs text → (t : Told) × (told text ≡ Ok t) × Parts t w h rule runs
+  pub only : (text : List ℕ) (t : Told) → told text ≡ Ok t → (length text ≤ 65536) × ((remarks : List (List ℕ)) × Readable remarks t.width t.height t.rule t.runs text)
+  pub faulty : (text : List ℕ) (fault : ReadFault) → told text ≡ Err fault → Faulty text fault

@@ -1,0 +1,8 @@
+// What a check comes to, and the line that tells it.
+#![tactic(auto)]
+
+mod verdict;
+mod writing;
+
+pub use verdict::{Place, Refusal, Verdict};
+pub use writing::write_verdict;
