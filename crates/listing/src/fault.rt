@@ -20,8 +20,6 @@ pub enum ListFault {
     Foot(PageFault),
     // the sink takes no more
     Closed,
-    // 2^64 - 1 goes were made and the search was not done
-    Endless,
 }
 
 // Each `From` is written out and not derived by thiserror, so that a clause knows which case `?` gives.
@@ -70,7 +68,6 @@ impl fmt::Display for ListFault {
     fn fmt<W: fmt::Write>(&self, f: &mut fmt::Formatter<W>) -> fmt::Result {
         match self {
             ListFault::Closed => write!(f, "the output is closed"),
-            ListFault::Endless => write!(f, "the search did not end"),
             ListFault::Go(_) | ListFault::Write(_) | ListFault::Tally(_) | ListFault::Foot(_) => {
                 write!(f, "the search was refused")
             }

@@ -1,11 +1,11 @@
-ghost use Rattle.std.specs.Prelude.{◌≡◌, ℕ, [], IfOk, OnOk, is_none};
+ghost use Rattle.std.specs.Prelude.{◌≡◌, ℕ, ◌<◌, false, [], IfOk, OnOk, is_none};
 ghost use Rattle.frames.specs.Frames.{cells};
 ghost use Rattle.rules.specs.declared.rule.Rule.{Rule};
 ghost use Rattle.rolls.specs.Laws.{Orders};
 ghost use Rattle.rolls.specs.Rolls.{Surface};
 ghost use Rattle.histories.specs.Searches.{fresh};
 ghost use Rattle.printing.specs.Printed.{found_line};
-ghost use Rattle.search.specs.Calls.{IsOpen, state_in, text_of, told_by};
+ghost use Rattle.search.specs.Calls.{IsOpen, left_in, state_in, text_of, told_by};
 ghost use Rattle.listing.specs.Handing.{Handed, PageHanded, TakenAndRested, WentOn};
 
 use crate::fault::ListFault;
@@ -60,7 +60,8 @@ fn go_on<S: Sink>(
     left: u32,
     sink: &mut S,
 ) -> Result<Option<u32>, ListFault>
-    ensures { (s : Surface) (rule : Rule) (cell : ℕ → ℕ) → IsOpen search.old s rule cell →
+    ensures fewer { IfOk result (λ next. is_none next ≡ false → left_in search.new < left_in search.old) }
+    ensures went { (s : Surface) (rule : Rule) (cell : ℕ → ℕ) → IsOpen search.old s rule cell →
         IfOk result (λ next. WentOn S.Sink.takes S.Sink.rests s rule cell search.old search.new sink.old sink.new (is_none next)) }
 {
     let answer = search.go(left)?;
@@ -86,12 +87,9 @@ pub fn list_page<S: Sink>(
         OnOk result (PageHanded S.Sink.takes S.Sink.rests s rule cell sink.old sink.new) }
 {
     let mut left = STRIDE;
-    // every loop has to end: 2^64 - 1 goes are more than any machine makes
-    for _ in 0..u64::MAX {
-        match go_on(search, page, left, sink)? {
-            Some(next) => left = next,
-            None => return Ok(()),
-        }
+    // it ends, since each go that is not the last leaves fewer
+    while let Some(next) = go_on(search, page, left, sink)? {
+        left = next;
     }
-    Err(ListFault::Endless)
+    Ok(())
 }

@@ -1,6 +1,7 @@
 mod Calls
 mod Decided
 pub mod Finds
+mod Onward
 mod Opened
 mod Ranks
 mod Settled

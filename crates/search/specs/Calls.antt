@@ -1,5 +1,5 @@
 -- What the calls of a search answer, and what a search shows.
-use Rattle.std.specs.Prelude.{◌≡◌, ℕ, Bool, true, false, cond, not, ◌&&◌, List, [], Some, None, Option, Ok, Err, Result, nat_le, nat_lt}
+use Rattle.std.specs.Prelude.{◌≡◌, ℕ, suc, ◌-◌, ◌*◌, ◌^◌, Bool, true, false, cond, not, ◌&&◌, List, [], Some, None, Option, Ok, Err, Result, nat_le, nat_lt, vec_len}
 use Rattle.std.specs.Option.{option_map_or}
 use Rattle.rules.specs.declared.rule.Rule.{Rule}
 use Rattle.rolls.specs.Rolls.{Surface}
@@ -11,7 +11,7 @@ use Rattle.histories.specs.Searches.{State, fresh, Reply, tells_find, done, paus
 use Rattle.histories.specs.Going.{go}
 use Rattle.settling.specs.Boards.{values_of}
 use Rattle.search.specs.Answers.{steps_of}
-use Rattle.search.specs.Moves.{reply_in}
+use Rattle.search.specs.Moves.{reached, reply_in}
 use Rattle.search.specs.Opening.{Searches, found_cells, found_text}
 use Rattle.search.specs.Stacks.{find_in}
 use Rattle.search.specs.Standings.{state_of}
@@ -51,6 +51,13 @@ find_of q = option_map_or (λ (r : Record). find_in (values_of r.board)) q.recor
 -- the text of its first generation
 abbrev pub text_of : Search → List ℕ
 text_of q = option_map_or found_text q.record []
+
+-- how many calls of go there can be before one answers done, at most
+abbrev pub left_of : Record → ℕ
+left_of r = 2 * 2 ^ suc (vec_len r.ranks) - reached r
+
+abbrev pub left_in : Search → ℕ
+left_in q = option_map_or left_of q.record 0
 
 -- ---- opening
 -- an opened search is not opened again; nor is one with more than 8 rows of ties

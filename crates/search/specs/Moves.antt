@@ -1,15 +1,15 @@
 -- What the parts of a go come to, in the words of the search's definition.
-use Rattle.std.specs.Prelude.{◌≡◌, ℕ, suc, ◌+◌, ◌<◌, ◌≤◌, Bool, true, false, min, List, [], Some, None, Option, vec_len, slice_index_or}
+use Rattle.std.specs.Prelude.{◌≡◌, ℕ, ◌+◌, ◌*◌, ◌<◌, ◌≤◌, Bool, true, false, min, List, [], Some, None, Option, vec_len, slice_index_or}
 use Rattle.codes.specs.Codes.{is_unknown}
 use Rattle.systems.specs.Systems.{Sys, at, Below}
 use Rattle.systems.specs.Settling.{Least}
 use Rattle.systems.specs.Trails.{QuietBut}
-use Rattle.histories.specs.Searches.{State, Says, found, stepped, finished, Move, Reply, tells_find, done, paused, Go}
+use Rattle.histories.specs.Searches.{State, Says, found, stepped, finished, Move, Reply, tells_find, done, paused, Go, bit, index}
 use Rattle.histories.specs.Searches as searches
 use Rattle.search.specs.Answers.{steps_of}
 use Rattle.settling.specs.Boards.{held_of, settled_len, trail_len, trail_of, unsettled_of, values_of}
 use Rattle.search.specs.Decided.{first}
-use Rattle.search.specs.Stacks.{FirstRank, LastOff, Stack, decided_in, find_in, ranked}
+use Rattle.search.specs.Stacks.{FirstRank, LastOff, Stack, all_meant, decided_in, find_in, is_told, ranked}
 use Rattle.search.specs.Standings.{Follows, Renders, state_of}
 use Rattle.search.specs.declared.answer.Answer.{Answer}
 use Rattle.search.specs.declared.answer.Answer.TheVariants.{Found, Done, Paused}
@@ -94,3 +94,15 @@ pub record MayOpen (r : Record) (S : Sys) (torn : Bool) : Type 0 where
   pub unsettled : settled_len r.board ≡ 0
   pub undecided : r.decisions.items ≡ []
   pub standing : r.standing ≡ Contradiction
+
+-- how far a record has come: its decisions' place in the sequence in which a tree of choices, one for each rank, is gone through, and whether the find there is told
+abbrev pub place_of : Record → ℕ
+place_of r = index (vec_len r.ranks) (all_meant r.ranks.items r.decisions.items)
+
+abbrev pub reached : Record → ℕ
+reached r = 2 * place_of r + bit (is_told r.standing)
+
+abbrev pub is_done : Answer → Bool
+is_done (Found n) = false
+is_done (Done n) = true
+is_done (Paused n) = false

@@ -1,7 +1,7 @@
 ghost use Rattle.std.specs.Prelude.{◌≡◌, ℕ, ◌+◌, ◌<◌, ◌≤◌, false, IfSome, MatchOption, Some};
 ghost use Rattle.systems.specs.Systems.{Sys};
 ghost use Rattle.search.specs.Answers.{steps_of};
-ghost use Rattle.search.specs.Moves.{Due, Gone, HasStep, found_after, tally_after, turns_back};
+ghost use Rattle.search.specs.Moves.{Due, Gone, HasStep, found_after, is_done, reached, tally_after, turns_back};
 ghost use Rattle.search.specs.Records.{AsOpened};
 ghost use Rattle.search.specs.Standings.{Follows};
 
@@ -24,6 +24,7 @@ impl Record {
         ensures same { AsOpened self.old self.new }
         ensures found { self.new.found ≡ found_after self.old.found result }
         ensures tally { self.new.tally ≡ tally_after self.old.tally result }
+        ensures onward { IfSome result (λ a. is_done a ≡ false → reached self.old < reached self.new) }
         ensures due { MatchOption result ((self.new ≡ self.old) × HasStep self.old) (λ a. (S : Sys) → Follows self.old S → Due S self.old self.new a) }
     {
         if let Standing::Find = self.standing {
@@ -44,6 +45,7 @@ impl Record {
         ensures same { AsOpened self.old self.new }
         ensures found { self.new.found ≡ found_after false (Some result) }
         ensures tally { self.new.tally ≡ tally_after self.old.tally (Some result) }
+        ensures onward { 1 ≤ steps → is_done result ≡ false → reached self.old < reached self.new }
         ensures goes { (S : Sys) → Follows self.old S → Gone S steps self.old self.new result }
     {
         self.found = false;

@@ -1,4 +1,4 @@
-ghost use Rattle.std.specs.Prelude.{◌≡◌, ◌≤◌, ℕ, false, None, Some, IfOk, MatchResult};
+ghost use Rattle.std.specs.Prelude.{◌≡◌, ◌<◌, ◌≤◌, ℕ, false, None, Some, IfOk, MatchResult};
 ghost use Rattle.rules.specs.Forms.{written};
 ghost use Rattle.rules.specs.declared.rule.Rule.{Rule};
 ghost use Rattle.rolls.specs.Rolls.{Surface, surface};
@@ -7,8 +7,8 @@ ghost use Rattle.rle.specs.Texts.{pattern_text};
 ghost use Rattle.systems.specs.Spaces.{spread, system_of};
 ghost use Rattle.histories.specs.Searches.{fresh};
 ghost use Rattle.search.specs.Answers.{steps_of};
-ghost use Rattle.search.specs.Calls.{Goes, IsOpen, OpenRefused, Writes, find_of, found_by, go_refusal, open_refusal, state_in, tally_answer, text_of, told_by};
-ghost use Rattle.search.specs.Moves.{found_after, tally_after};
+ghost use Rattle.search.specs.Calls.{Goes, IsOpen, OpenRefused, Writes, find_of, found_by, go_refusal, left_in, open_refusal, state_in, tally_answer, text_of, told_by};
+ghost use Rattle.search.specs.Moves.{found_after, is_done, tally_after};
 
 use crate::answer::Answer;
 use crate::fault::{GoFault, OpenFault, TallyFault, WriteFault};
@@ -71,6 +71,7 @@ impl Search {
         ensures goes { (s : Surface) (rule : Rule) (cell : ℕ → ℕ) → IsOpen self.old s rule cell →
             IfOk result (λ answer. Goes (system_of s rule cell) steps self.old self.new answer) }
         ensures steps { IfOk result (λ answer. steps_of answer ≤ steps) }
+        ensures onward { IfOk result (λ answer. is_done answer ≡ false → left_in self.new < left_in self.old) }
         ensures found { IfOk result (λ answer. found_by self.new ≡ found_after false (Some answer)) }
         ensures tally { IfOk result (λ answer. told_by self.new ≡ tally_after (told_by self.old) (Some answer)) }
     {

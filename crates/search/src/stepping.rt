@@ -3,7 +3,7 @@ ghost use Rattle.systems.specs.Systems.{Sys, at};
 ghost use Rattle.systems.specs.Trails.{Grows};
 ghost use Rattle.settling.specs.Boards.{Kept, held_of, settled_len, trail_len, values_of};
 ghost use Rattle.search.specs.Decided.{ChoiceFrom};
-ghost use Rattle.search.specs.Moves.{HasStep, MayDecide, MaySettle, Steps, turns_back};
+ghost use Rattle.search.specs.Moves.{HasStep, MayDecide, MaySettle, Steps, place_of, turns_back};
 ghost use Rattle.search.specs.Records.{OnlyBoard, OnlySearch};
 ghost use Rattle.search.specs.Stacks.{FirstFrom, LastOff, StandsAs, is_contradiction, is_told};
 ghost use Rattle.search.specs.Standings.{Follows};
@@ -74,6 +74,7 @@ impl Record {
         requires deep { vec_len self.old.decisions ≤ rank }
         ensures same { OnlySearch self.old self.new }
         ensures steps { (S : Sys) → Follows self.old S → self.old.standing ≡ Choice rank → Steps S self.old self.new }
+        ensures onward { place_of self.old < place_of self.new }
     {
         let mark = self.board.mark();
         self.decide(Decision {
@@ -87,6 +88,7 @@ impl Record {
     fn turn(&mut self)
         ensures same { OnlySearch self.old self.new }
         ensures steps { (S : Sys) → Follows self.old S → turns_back self.old.standing ≡ true → HasStep self.old → Steps S self.old self.new }
+        ensures onward { turns_back self.old.standing ≡ true → HasStep self.old → place_of self.old < place_of self.new }
     {
         let Some(at) = self.last_off() else {
             return;
@@ -105,6 +107,7 @@ impl Record {
     pub(crate) fn step(&mut self)
         ensures same { OnlySearch self.old self.new }
         ensures steps { (S : Sys) → Follows self.old S → HasStep self.old → Steps S self.old self.new }
+        ensures onward { HasStep self.old → place_of self.old < place_of self.new }
     {
         match self.standing {
             Standing::Contradiction | Standing::Told => self.turn(),

@@ -2,14 +2,14 @@ use Rattle.listing.proofs.Pages.{went_done, went_found, went_paused}
 use Rattle.listing.proofs.page.go_on.Goals as goal
 use Rattle.listing.proofs.page.go_on.Goals.{in-Found+in_ok-hand_find-in-Found, in-Paused}
 
-pub returns-in-Done : goal.returns-in-Done
-returns-in-Done g c s rule cell opened =
+pub returns-in-Done-clause-went : goal.returns-in-Done-clause-went
+returns-in-Done-clause-went g c s rule cell opened =
     let went = c.in_ok-answer.ensures in
     went_done c.args.search.now c.go.new.self (went.open s rule cell opened) c.args.left c.in_ok-answer.answer (went.goes s rule cell opened) went.tally c.args.sink.now
     c.in-Done.field-0 c.in-Done.is c.hand_foot.new.sink c.in_ok-hand_foot-in-Done.ensures
 
-pub returns : goal.returns
-returns g c s rule cell opened =
+pub returns-clause-went : goal.returns-clause-went
+returns-clause-went g c s rule cell opened =
     let went = c.in_ok-answer.ensures in
     let goes = went.goes s rule cell opened in
     let open_still = went.open s rule cell opened in

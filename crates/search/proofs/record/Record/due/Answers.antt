@@ -1,4 +1,5 @@
 use Rattle.std.proofs.Common.{rules, ◌≡◌, None, refl, sym, subst, ◌∙◌}
+use Rattle.systems.proofs.Base.{never}
 use Rattle.search.specs.Stacks.{LastOff}
 use Rattle.search.proofs.Walks.{due_done, due_found}
 use Rattle.search.proofs.record.Record.due.Goals as goal
@@ -14,5 +15,6 @@ returns-then-is_none c =
       same = record { frame = refl; rule = refl; classes = refl; ranks = refl };
       found = refl;
       tally = refl;
+      onward = λ e. never (cc e);
       due = λ S follows. due_done S c.args.self.now follows c.args.taken (sym c.turns_back.ensures ∙ c.if-turns_back.true) (subst (LastOff c.args.self.now.decisions.items) none c.last_off.ensures);
     }

@@ -5,6 +5,7 @@ use Rattle.systems.specs.Trails.{Trailed}
 use Rattle.settling.specs.Boards.{settled_len, trail_of, values_of}
 use Rattle.search.specs.Decided.{first}
 use Rattle.search.specs.declared.standing.Decision.{Decision}
+use Rattle.search.proofs.Onward.{turned_onward}
 use Rattle.search.proofs.Turned.{made_on, may_turn, turned}
 use Rattle.search.proofs.record.Record.turn.Goals as goal
 
@@ -24,3 +25,12 @@ returns-clause-steps c S follows goes_back has_step =
       follows = c.decide.ensures.follows S (may_turn S old follows n off b c.undo.ensures.kept settled back _ refl refl c.truncate.ensures.items _ read);
       move = turned S old follows n off c.decide.new.self goes_back c.decide.ensures.same.ranks pushed c.decide.ensures.untold;
     }
+
+pub returns-clause-onward : goal.returns-clause-onward
+returns-clause-onward c goes_back has_step =
+    let old = c.args.self.now in
+    let n = c.in-Some.at in
+    let off = c.in-Some.ensures in
+    let read : c.index-decision.result.now ≡ slice_index_or old.decisions.items n first = c.index-decision.ensures ∙ get_or_default old.decisions.items n _ first off.0 in
+    let pushed = c.decide.ensures.pushed ∙ ap (λ (d : Decision). c.truncate.new.self.items ++ made_on d ∷ []) read ∙ ap (λ (ds : List Decision). ds ++ made_on (slice_index_or old.decisions.items n first) ∷ []) c.truncate.ensures.items in
+    turned_onward old c.decide.new.self c.decide.ensures.same.ranks n off pushed
