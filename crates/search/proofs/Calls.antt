@@ -1,5 +1,5 @@
 -- A granted go of an opened search is the one of its definition.
-use Rattle.std.proofs.Common.{◌≡◌, ℕ, List, [], ◌∷◌, ◌++◌, Some, Option, refl, sym, ap, ◌∙◌, subst}
+use Rattle.std.proofs.Common.{◌≡◌, ℕ, List, [], Some, Option, refl, sym, ap, ◌∙◌, subst}
 use Rattle.std.specs.Option.{option_map_or}
 use Rattle.rules.specs.declared.rule.Rule.{Rule}
 use Rattle.rolls.specs.Rolls.{Surface}
@@ -7,7 +7,6 @@ use Rattle.systems.specs.Systems.{Sys, at}
 use Rattle.systems.specs.Spaces.{system_of}
 use Rattle.systems.specs.Trails.{Held}
 use Rattle.histories.specs.Searches.{Stands, no_choice, State, fresh, Reply, tells_find, Go}
-use Rattle.histories.specs.Searches as searches
 use Rattle.histories.specs.Going.{go}
 use Rattle.histories.proofs.Going.{go_computed}
 use Rattle.histories.proofs.Standing.{stands_push}
@@ -69,5 +68,5 @@ module _ (s : Surface) (rule : Rule) (cell : ℕ → ℕ) (r r' : Record) (h : S
         moves =
             subst (λ (s : State). Go S n s (reply_of q' a) (steps_of a) (state_in q')) (sym was)
             (subst (λ (s : State). Go S n (state_of r) (reply_of q' a) (steps_of a) s) (sym now)
-              (subst (λ (reply : Reply). Go S n (state_of r) reply (steps_of a) (state_of r')) (sym said) moved));
+            (subst (λ (reply : Reply). Go S n (state_of r) reply (steps_of a) (state_of r')) (sym said) moved));
       }

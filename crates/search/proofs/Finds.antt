@@ -1,12 +1,11 @@
 -- The find, cell by cell, and its text.
 use Rattle.std.specs.Prelude.{unwrap_or}
-use Rattle.std.proofs.Common.{◌≡◌, ℕ, zero, suc, ◌+◌, ◌*◌, ◌<◌, ◌≤◌, Bool, true, false, List, [], ◌∷◌, ◌++◌, map, length, take, get_or, set, slice_index, Some, None, Ok, Err, Option, Result, refl, sym, ap, ◌∙◌, subst, inl, inr, arith}
+use Rattle.std.proofs.Common.{◌≡◌, ℕ, zero, suc, ◌+◌, ◌*◌, ◌<◌, ◌≤◌, Bool, false, List, [], ◌∷◌, ◌++◌, map, length, take, get_or, set, slice_index, Some, Ok, Err, Option, Result, refl, sym, ap, ◌∙◌, subst, inl, inr, arith}
 use Rattle.std.proofs.lemmas.Bool.{cases_eq, cases_lt}
 use Rattle.std.proofs.Math.Nat.{le-mul_of_pos_right, mul-le-mul_right}
 use Rattle.std.proofs.lemmas.Grind.{get_or-set_at}
 use Rattle.std.proofs.lemmas.List.{ext_get_or, get_or-map, get_or-set_other, get_or-take, length-map, length-take}
 use Rattle.codes.specs.declared.value.Value.{Value}
-use Rattle.codes.specs.declared.value.Value.TheVariants.{Off, On, Unknown}
 use Rattle.rules.specs.declared.rule.Rule.{Rule}
 use Rattle.rules.specs.Forms.{written}
 use Rattle.rle.specs.Back.{ReadsAs}
@@ -50,8 +49,8 @@ text_same w h name xs ys l m same = ap (λ (cells : List Bool). heading_text w h
     front : take (w * h) xs ≡ take (w * h) ys
     front =
         ext_get_or false (take (w * h) xs) (take (w * h) ys)
-          (omega (arith, length-take (w * h) xs, length-take (w * h) ys))
-          (λ k q. get_or-take (w * h) xs k false (omega (arith, length-take (w * h) xs)) ∙ same k (omega (arith, length-take (w * h) xs)) ∙ sym (get_or-take (w * h) ys k false (omega (arith, length-take (w * h) xs))))
+        (omega (arith, length-take (w * h) xs, length-take (w * h) ys))
+        (λ k q. get_or-take (w * h) xs k false (omega (arith, length-take (w * h) xs)) ∙ same k (omega (arith, length-take (w * h) xs)) ∙ sym (get_or-take (w * h) ys k false (omega (arith, length-take (w * h) xs))))
 
 -- one cell more is set
 pub set_more : (xs : List Bool) (n : ℕ) (b : Bool) (ys : List Bool) → n < length xs → b ≡ get_or ys n false → ((k : ℕ) → k < n → get_or xs k false ≡ get_or ys k false) → (k : ℕ) → k < n + 1 → get_or (set xs n b) k false ≡ get_or ys k false
@@ -108,7 +107,6 @@ module _ (r : Record) (s : Surface) (rule : Rule) (cell : ℕ → ℕ) (h : Sear
   reads_as =
       subst (ReadsAs s.frame.width s.frame.height (written rule.births rule.survivals) (spread s (find_in (values_of r.board)))) (sym text_is)
       (round_trip s.frame.width s.frame.height rule.births rule.survivals (spread s (find_in (values_of r.board))) (omega arith) (omega arith) (omega arith) (omega arith))
-
 
 -- the same of the search
 pub opened_text : (q : Search) (s : Surface) (rule : Rule) (cell : ℕ → ℕ) → IsOpen q s rule cell →

@@ -1,5 +1,5 @@
 -- A search that is opened follows the system from the first settling on.
-use Rattle.std.proofs.Common.{Vec, Global, ◌≡◌, ℕ, ◌+◌, ◌*◌, ◌<◌, Bool, true, false, List, [], ◌∷◌, ◌++◌, map, length, drop, Some, None, slice_index, slice_index_or, vec_len, refl, sym, ap, ◌∙◌, subst, arith, append-nil}
+use Rattle.std.proofs.Common.{Vec, Global, ◌≡◌, ℕ, ◌+◌, ◌*◌, Bool, true, false, List, [], ◌∷◌, ◌++◌, length, slice_index, vec_len, refl, sym, ap, ◌∙◌, subst, arith, append-nil}
 use Rattle.std.proofs.lemmas.List.FromFn.{map-range_with_len_more}
 use Rattle.frames.specs.Frames.{cells}
 use Rattle.rules.specs.declared.rule.Rule.{Rule}
@@ -14,16 +14,14 @@ use Rattle.classes.specs.Needed.{musts_in}
 use Rattle.classes.specs.Numbers.{Numbers}
 use Rattle.gathering.specs.Rendering.{SameInstances, kept}
 use Rattle.gathering.specs.Systems.{instances_of}
-use Rattle.gathering.specs.Systems as gathering
 use Rattle.codes.specs.declared.value.Value.{Value}
 use Rattle.systems.specs.Systems.{Sys, at, Below}
-use Rattle.systems.specs.Settling.{Settles, Meets, Least, Dead, Closed}
+use Rattle.systems.specs.Settling.{Settles, Meets, Least, Dead}
 use Rattle.systems.specs.Spaces.{all_instances, classes_by_rank, start_of, system_of}
-use Rattle.systems.specs.Trails.{Trailed, not_yet, Held, Grows, QuietBut}
+use Rattle.systems.specs.Trails.{Trailed, not_yet, Grows, QuietBut}
 use Rattle.systems.proofs.Base.{never}
 use Rattle.systems.proofs.Spaces.{solutions_right}
-use Rattle.systems.proofs.Settle.{settles_least, meets_dead, steps_add}
-use Rattle.systems.proofs.Trails.{grows_then}
+use Rattle.systems.proofs.Settle.{settles_least, meets_dead}
 use Rattle.search.specs.declared.standing.Decision.{Decision}
 use Rattle.settling.specs.Boards.{Kept, Serves, held_of, settled_len, trail_len, trail_of, unsettled_of, values_of}
 use Rattle.classes.specs.declared.classes.Classes.{Classes}
@@ -84,8 +82,8 @@ module _ (S : Sys) (r : Record) (torn : Bool) (may : MayOpen r S torn) where
   pub torn_follows : torn ≡ true → Follows r S
   torn_follows q =
       opened r (record { system = refl; table = refl }) refl refl (record { added = []; trail = sym (append-nil (trail_of r.board)); values = not_yet })
-        (λ e. never (cc (e, ap is_contradiction may.standing)))
-        (subst (StandsAs S S.start (values_of r.board)) (sym may.standing) (λ v c b. never (cc (c.not_torn, may.whole, q))))
+      (λ e. never (cc (e, ap is_contradiction may.standing)))
+      (subst (StandsAs S S.start (values_of r.board)) (sym may.standing) (λ v c b. never (cc (c.not_torn, may.whole, q))))
 
   module _ (whole : torn ≡ false) where
     pub may_serve : Serves r.board S
@@ -95,8 +93,8 @@ module _ (S : Sys) (r : Record) (torn : Bool) (may : MayOpen r S torn) where
     pub met_follows : (r' : Record) → Kept r.board r'.board → r'.ranks ≡ r.ranks → r'.decisions ≡ r.decisions → Grows (held_of r.board) (held_of r'.board) → r'.standing ≡ r.standing → Meets S (values_of r.board) → Follows r' S
     met_follows r' kept ranks decisions grows same m =
         opened r' kept ranks decisions grows
-          (λ e. never (cc (e, ap is_contradiction (same ∙ may.standing))))
-          (subst (StandsAs S S.start (values_of r'.board)) (sym (same ∙ may.standing)) (subst (Dead S) may.start (meets_dead S m)))
+        (λ e. never (cc (e, ap is_contradiction (same ∙ may.standing))))
+        (subst (StandsAs S S.start (values_of r'.board)) (sym (same ∙ may.standing)) (subst (Dead S) may.start (meets_dead S m)))
 
     module _ (b : Board) (kept : Kept r.board b) (all : settled_len b ≡ trail_len b) (s : Settles S (values_of r.board) (values_of b)) where
       least : Least S S.start (values_of b)

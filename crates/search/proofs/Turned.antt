@@ -1,12 +1,11 @@
 -- A choice and a turn are the moves of the search's definition, and what a turn takes off the trail gives back what was held.
-use Rattle.std.proofs.Common.{Vec, Global, ◌⊎◌, ◌≡◌, ℕ, zero, suc, ◌+◌, ◌<◌, ◌≤◌, Bool, true, false, List, [], ◌∷◌, ◌++◌, map, length, take, drop, get_or, set, min, Some, None, Option, slice_index_or, vec_len, refl, sym, ap, ◌∙◌, subst, inl, inr, arith}
+use Rattle.std.proofs.Common.{Vec, Global, ◌≡◌, ℕ, zero, suc, ◌<◌, ◌≤◌, Bool, true, false, List, [], ◌∷◌, ◌++◌, length, take, get_or, min, Some, None, slice_index_or, refl, sym, ap, ◌∙◌, subst, inl, inr, arith}
 use Rattle.std.proofs.lemmas.Bool.{cases_lt}
-use Rattle.std.proofs.lemmas.List.{get_or_append_left, length_push, length-append, length-take, take-append-le}
+use Rattle.std.proofs.lemmas.List.{get_or_append_left, length_push, length-append, take-append-le}
 use Rattle.std.proofs.Math.Seq.{get_or-append_seam, take-append_seam}
 use Rattle.codes.specs.declared.value.Value.{Value}
-use Rattle.codes.specs.Laws.{known}
 use Rattle.systems.specs.Systems.{Sys, at, Proper}
-use Rattle.systems.specs.Settling.{Least, Dead}
+use Rattle.systems.specs.Settling.{Least}
 use Rattle.systems.specs.Trails.{Trailed, not_yet, one_more, Held, hold, Grows}
 use Rattle.systems.proofs.Base.{never, in_get_d}
 use Rattle.systems.proofs.Trails.{grows_then, trailed_long}
@@ -15,8 +14,8 @@ use Rattle.histories.specs.Searches as searches
 use Rattle.settling.specs.Boards.{held_of, settled_len, trail_len, trail_of, values_of}
 use Rattle.settling.specs.Boards.{Kept}
 use Rattle.search.specs.Decided.{first}
-use Rattle.search.specs.Moves.{HasStep, MayDecide, turns_back}
-use Rattle.search.specs.Stacks.{FirstRank, LastOff, Stack, StandsAs, all_meant, decided, decided_in, is_contradiction, is_told, meant, ranked, undecided}
+use Rattle.search.specs.Moves.{MayDecide, turns_back}
+use Rattle.search.specs.Stacks.{FirstRank, LastOff, Stack, StandsAs, all_meant, decided, decided_in, is_contradiction, is_told, ranked, undecided}
 use Rattle.search.specs.Standings.{Follows, Renders, state_of}
 use Rattle.settling.specs.declared.board.Board.{Board}
 use Rattle.search.specs.declared.record.Record.{Record}
@@ -25,7 +24,6 @@ use Rattle.search.specs.declared.standing.Standing.{Standing}
 use Rattle.search.specs.declared.standing.Standing.TheVariants.{Contradiction, Find, Told, Choice}
 use Rattle.search.proofs.Decided.{hold_is, meant_push, renders_kept, stack_trailed}
 use Rattle.search.proofs.Ranks.{is_unknown_true, rank_first}
-use Rattle.search.proofs.Settled.{values_long}
 
 -- ---- a choice
 module _ (S : Sys) (r : Record) (follows : Follows r S) (rank : ℕ) (at_choice : r.standing ≡ Choice rank) where
@@ -87,27 +85,27 @@ popped {S} proper (decided {es = es} d g {h} below least first_rank mark grows) 
     let onto : Grows g h = grows_then (grows_decided S proper es g below d.rank d.on first_rank) grows in
     elim (cases_lt n (length es)) [
       | inl m ↦ (let p = popped proper below n m in
-        let t = take-append-le n es (d ∷ []) (omega arith) in
-        let q = get_or_append_left es (d ∷ []) first n m in
-        record {
-          before = p.before;
-          stack = subst (λ (ds : List Decision). Stack S ds p.before) (sym t) p.stack;
-          least = subst (λ (ds : List Decision). Least S (decided_in S ds) p.before.values) (sym t) p.least;
-          first_rank = subst (λ (c : Decision). FirstRank (at p.before.values) S.order c.rank) (sym q) p.first_rank;
-          mark = p.mark ∙ ap (λ (c : Decision). c.mark) (sym q);
-          grows = grows_then p.grows onto;
-        })
+          let t = take-append-le n es (d ∷ []) (omega arith) in
+          let q = get_or_append_left es (d ∷ []) first n m in
+          record {
+            before = p.before;
+            stack = subst (λ (ds : List Decision). Stack S ds p.before) (sym t) p.stack;
+            least = subst (λ (ds : List Decision). Least S (decided_in S ds) p.before.values) (sym t) p.least;
+            first_rank = subst (λ (c : Decision). FirstRank (at p.before.values) S.order c.rank) (sym q) p.first_rank;
+            mark = p.mark ∙ ap (λ (c : Decision). c.mark) (sym q);
+            grows = grows_then p.grows onto;
+          })
       | inr m ↦ (let e : n ≡ length es = omega (arith, l, m, length_push es d) in
-        let t : take n (es ++ d ∷ []) ≡ es = ap (λ (k : ℕ). take k (es ++ d ∷ [])) e ∙ take-append_seam es (d ∷ []) in
-        let q : slice_index_or (es ++ d ∷ []) n first ≡ d = ap (λ (k : ℕ). get_or (es ++ d ∷ []) k first) e ∙ get_or-append_seam es d [] first in
-        record {
-          before = g;
-          stack = subst (λ (ds : List Decision). Stack S ds g) (sym t) below;
-          least = subst (λ (ds : List Decision). Least S (decided_in S ds) g.values) (sym t) least;
-          first_rank = subst (λ (c : Decision). FirstRank (at g.values) S.order c.rank) (sym q) first_rank;
-          mark = mark ∙ ap (λ (c : Decision). c.mark) (sym q);
-          grows = onto;
-        })
+          let t : take n (es ++ d ∷ []) ≡ es = ap (λ (k : ℕ). take k (es ++ d ∷ [])) e ∙ take-append_seam es (d ∷ []) in
+          let q : slice_index_or (es ++ d ∷ []) n first ≡ d = ap (λ (k : ℕ). get_or (es ++ d ∷ []) k first) e ∙ get_or-append_seam es d [] first in
+          record {
+            before = g;
+            stack = subst (λ (ds : List Decision). Stack S ds g) (sym t) below;
+            least = subst (λ (ds : List Decision). Least S (decided_in S ds) g.values) (sym t) least;
+            first_rank = subst (λ (c : Decision). FirstRank (at g.values) S.order c.rank) (sym q) first_rank;
+            mark = mark ∙ ap (λ (c : Decision). c.mark) (sym q);
+            grows = onto;
+          })
     ]
 
 -- every decision's mark lies within the trail
@@ -173,7 +171,7 @@ module _ (S : Sys) (r : Record) (follows : Follows r S) (n : ℕ) (off : LastOff
             marks = λ j l.
                 subst (λ (c : Board). (slice_index_or r'.decisions.items j first).mark ≤ settled_len c) (sym e)
                 (subst (λ (ds : List Decision). (slice_index_or ds j first).mark ≤ settled_len b) (sym dropped)
-                  (omega (arith, marks_within follows.board.proper p.stack j (omega (arith, l, r'.decisions.ok.0, ap length dropped)), p.mark, settled_back)));
+                (omega (arith, marks_within follows.board.proper p.stack j (omega (arith, l, r'.decisions.ok.0, ap length dropped)), p.mark, settled_back)));
             settled = subst (λ (c : Board). settled_len c ≡ trail_len c) (sym e) (settled_back ∙ sym trail_back);
             mark = subst (λ (c : Board). trail_len c ≡ d.mark) (sym e) trail_back;
             least = subst (λ (c : Board). Least S (decided_in S r'.decisions.items) (values_of c)) (sym e) (subst (λ (ds : List Decision). Least S (decided_in S ds) (values_of b)) (sym dropped) (subst (Least S (decided_in S (take n r.decisions.items))) (sym put_back.0) p.least));

@@ -1,11 +1,10 @@
 -- Steps one after another, and the call of go that takes them.
 use Rattle.std.specs.Prelude.{unwrap_or}
-use Rattle.std.proofs.Common.{◌-◌, IfSome, MatchOption, Vec, Global, take, ◌++◌, vec_len, ◌≡◌, ℕ, zero, suc, ◌+◌, ◌<◌, ◌≤◌, Bool, true, false, List, [], ◌∷◌, length, Some, None, Option, slice_index_or, refl, sym, ap, ◌∙◌, subst, inl, inr, arith}
-use Rattle.codes.specs.declared.value.Value.{Value}
+use Rattle.std.proofs.Common.{◌-◌, IfSome, MatchOption, Vec, Global, take, ◌++◌, vec_len, ◌≡◌, ℕ, zero, suc, ◌+◌, ◌<◌, ◌≤◌, Bool, true, false, List, [], ◌∷◌, length, Some, None, Option, slice_index_or, refl, sym, ap, ◌∙◌, subst, arith}
 use Rattle.systems.specs.Systems.{Sys, at}
 use Rattle.systems.proofs.Base.{never}
 use Rattle.systems.specs.Settling.{Least}
-use Rattle.histories.specs.Searches.{sets, choose, turn, tells_find, State, Says, stepped, Move, Reply, Go, goes_on, pauses, tells_it, is_done, tell, finish, paused}
+use Rattle.histories.specs.Searches.{sets, choose, turn, tells_find, State, stepped, Move, Reply, Go, goes_on, pauses, tells_it, is_done, tell, finish, paused}
 use Rattle.settling.specs.Boards.{held_of, settled_len, trail_len, values_of}
 use Rattle.search.specs.Decided.{first}
 use Rattle.search.specs.Answers.{steps_of}
@@ -112,7 +111,7 @@ module _ (S : Sys) (r : Record) (follows : Follows r S) where
           settled = λ q. subst (λ (b : Board). settled_len b ≡ trail_len b) (sym board) (follows.settled (ap is_contradiction e));
           stands = subst (StandsAs S (decided_in S r'.decisions.items) (values_of r'.board)) (sym e')
               (subst (λ (b : Board). StandsAs S (decided_in S r'.decisions.items) (values_of b) Told) (sym board)
-                (subst (λ (v : Vec Decision Global). StandsAs S (decided_in S v.items) (values_of r.board) Told) (sym decisions) at_find));
+              (subst (λ (v : Vec Decision Global). StandsAs S (decided_in S v.items) (values_of r.board) Told) (sym decisions) at_find));
         }
 
     pub due_found : (n : ℕ) → Due S r r' (Found n)
@@ -122,8 +121,8 @@ module _ (S : Sys) (r : Record) (follows : Follows r S) where
           go = λ m.
               subst (λ (s : State). Go S m s (reply_in r' (Found n)) 0 (state_of r')) (sym untold)
               (subst (λ (s : State). Go S m (record { standing = all_meant S.order r.decisions.items; told = false }) (reply_in r' (Found n)) 0 s) (sym told_now)
-                (subst (λ (b : Board). Go S m (record { standing = all_meant S.order r.decisions.items; told = false }) (tells_find (find_in (values_of b))) 0 (record { standing = all_meant S.order r.decisions.items; told = true })) (sym board)
-                  (tells_it (tell (subst (Least S (decided_in S r.decisions.items)) at_find.1 at_find.0)))));
+              (subst (λ (b : Board). Go S m (record { standing = all_meant S.order r.decisions.items; told = false }) (tells_find (find_in (values_of b))) 0 (record { standing = all_meant S.order r.decisions.items; told = true })) (sym board)
+              (tells_it (tell (subst (Least S (decided_in S r.decisions.items)) at_find.1 at_find.0)))));
         }
 
   pub due_done : (n : ℕ) → turns_back r.standing ≡ true → LastOff r.decisions.items None → Due S r r (Done n)
@@ -146,11 +145,11 @@ follows_again {r} {r'} {S} ranks board decisions standing f = (
     settled = λ q. subst (λ (b : Board). settled_len b ≡ trail_len b) (sym board) (f.settled (ap is_contradiction (sym standing) ∙ q));
     stands = subst (StandsAs S (decided_in S r'.decisions.items) (values_of r'.board)) (sym standing)
         (subst (λ (b : Board). StandsAs S (decided_in S r'.decisions.items) (values_of b) r.standing) (sym board)
-          (subst (λ (v : Vec Decision Global). StandsAs S (decided_in S v.items) (values_of r.board) r.standing) (sym decisions) f.stands));
+        (subst (λ (v : Vec Decision Global). StandsAs S (decided_in S v.items) (values_of r.board) r.standing) (sym decisions) f.stands));
   },
   ap (λ (v : Vec ℕ Global). record { standing = all_meant v.items r'.decisions.items; told = is_told r'.standing }) ranks
-  ∙ ap (λ (v : Vec Decision Global). record { standing = all_meant r.ranks.items v.items; told = is_told r'.standing }) decisions
-  ∙ ap (λ (s : Standing). record { standing = all_meant r.ranks.items r.decisions.items; told = is_told s }) standing,
+      ∙ ap (λ (v : Vec Decision Global). record { standing = all_meant r.ranks.items v.items; told = is_told r'.standing }) decisions
+      ∙ ap (λ (s : Standing). record { standing = all_meant r.ranks.items r.decisions.items; told = is_told s }) standing,
 )
 
 module _ (S : Sys) (r mid : Record) (taken : ℕ) (walked : Walked S taken (state_of r) (state_of mid)) where

@@ -11,7 +11,6 @@ ghost use Rattle.search.specs.Stacks.{is_contradiction, is_told};
 ghost use Rattle.search.specs.Standings.{Follows, state_of};
 ghost use Rattle.search.specs.Records.{OnlySearch};
 
-use settling::Board;
 use crate::record::Record;
 use crate::standing::Standing;
 use classes::{Classes, classes_of};
@@ -20,6 +19,7 @@ use gathering::System;
 use orders::Order;
 use planes::{Plane, Space};
 use rules::Rule;
+use settling::Board;
 use std::alloc::{AllocError, Global};
 
 // The class of the cell of each rank.

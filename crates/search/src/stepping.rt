@@ -9,9 +9,9 @@ ghost use Rattle.search.specs.Stacks.{FirstFrom, LastOff, StandsAs, is_contradic
 ghost use Rattle.search.specs.Standings.{Follows};
 ghost use Rattle.search.specs.declared.standing.Standing.TheVariants.{Choice};
 
-use settling::Contradiction;
 use crate::record::Record;
 use crate::standing::{Decision, Standing};
+use settling::Contradiction;
 
 impl Record {
     // The lowest rank from `from` on whose cell is unknown.

@@ -18,8 +18,8 @@ loop-rank-preserved g c =
     let asked : c.cell_at.result ≡ cell c.loop-rank.rank = c.cell_at.ensures ∙ cond-true (nat_lt c.loop-rank.rank (cells frame)) _ _ (search (rules, below)) in
     elim c.match-class_of.branch [
       | in-Some+in_ok-push w ↦ ap (λ (v : Vec ℕ Global). v.items) w.ranks-is ∙ w.in_ok-push.ensures.items
-        ∙ ap (λ (xs : List ℕ). xs ++ w.in-Some.class ∷ []) c.loop-rank.invariant
-        ∙ ap (λ (x : ℕ). classes_by_rank labels.items cell c.loop-rank.rank ++ x ∷ []) (w.in-Some.ensures.0 ∙ ap (slice_index labels.items) asked)
-        ∙ sym (by_rank_more labels.items cell c.loop-rank.rank)
+          ∙ ap (λ (xs : List ℕ). xs ++ w.in-Some.class ∷ []) c.loop-rank.invariant
+          ∙ ap (λ (x : ℕ). classes_by_rank labels.items cell c.loop-rank.rank ++ x ∷ []) (w.in-Some.ensures.0 ∙ ap (slice_index labels.items) asked)
+          ∙ sym (by_rank_more labels.items cell c.loop-rank.rank)
       | in_default w ↦ absurd (omega (arith, w.in_default.ensures, asked, c.requires, g.met.O.Order.within c.args.order.now frame c.loop-rank.rank below))
     ]

@@ -1,4 +1,4 @@
-use Rattle.std.proofs.Common.{rules, arith, ◌≡◌, ℕ, ◌≤◌, refl, sym, subst, ap, ◌∙◌}
+use Rattle.std.proofs.Common.{rules, arith, ◌≡◌, ℕ, ◌≤◌, refl, subst, ◌∙◌}
 use Rattle.std.proofs.lemmas.Grind.{get_or_default_zero}
 use Rattle.gathering.specs.Systems.{class_count}
 use Rattle.systems.specs.Trails.{hold}
@@ -17,4 +17,4 @@ returns-clause-follows c S may =
     let made = c.decide.ensures in
     let done = c.settle-standing.ensures in
     follows S old d may c.decide.new.self made.kept made.settled held _ done.kept done.grows done.onward done.same.ranks
-      (search rules) done.settled (done.stands S (may_settle S old d may c.decide.new.self made.kept made.settled held _ refl refl))
+    (search rules) done.settled (done.stands S (may_settle S old d may c.decide.new.self made.kept made.settled held _ refl refl))

@@ -1,6 +1,4 @@
-use Rattle.std.proofs.Common.{rules, ◌≡◌, ◌∙◌, ℕ, refl, sym, ap, subst, arith}
-use Rattle.systems.specs.Systems.{Sys}
-use Rattle.histories.specs.Searches.{State}
+use Rattle.std.proofs.Common.{rules, ◌≡◌, ℕ, refl, sym, subst, arith}
 use Rattle.search.specs.Standings.{state_of}
 use Rattle.search.proofs.Walks.{Walked, follows_again, gone_due, gone_last, not_yet, walk_more}
 use Rattle.search.proofs.record.Record.go.Goals as goal

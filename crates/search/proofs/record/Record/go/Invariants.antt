@@ -1,4 +1,4 @@
-use Rattle.std.proofs.Common.{◌≡◌, ℕ, false}
+use Rattle.std.proofs.Common.{◌≡◌, false}
 use Rattle.systems.specs.Systems.{Sys}
 use Rattle.search.specs.Records.{AsOpened}
 use Rattle.search.specs.Standings.{Follows, state_of}
@@ -11,5 +11,5 @@ invariant-loop-taken l =
       same : AsOpened l.fn.self l.self;
       found : l.self.found ≡ false;
       tally : l.self.tally ≡ l.fn.self.tally;
-      walked : (S : Sys) → Follows l.fn.self S → Follows l.self S × Walked S l.taken (state_of l.fn.self) (state_of l.self)
+      walked : (S : Sys) → Follows l.fn.self S → Follows l.self S × Walked S l.taken (state_of l.fn.self) (state_of l.self);
     }

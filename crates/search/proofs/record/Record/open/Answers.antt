@@ -1,4 +1,4 @@
-use Rattle.std.proofs.Common.{◌≡◌, ℕ, refl, sym, ap, subst, ◌∙◌}
+use Rattle.std.proofs.Common.{◌≡◌, refl, sym, ap, subst, ◌∙◌}
 use Rattle.frames.specs.Frames.{cells}
 use Rattle.frames.specs.declared.frame.Frame.{Frame}
 use Rattle.rolls.specs.Laws.{Orders}
@@ -30,5 +30,5 @@ returns-clause-searches g c =
     let ranks : c.in_ok-ranks.ranks.items ≡ classes_by_rank classes.labels.items (g.O.Order.cell_of_rank order s.frame) (cells s.frame) =
     c.in_ok-ranks.ensures ∙ ap (λ (f : Frame). classes_by_rank classes.labels.items (g.O.Order.cell_of_rank order f) (cells f)) c.frame-frame.ensures in
     searches s c.args.rule.now (g.O.Order.cell_of_rank order s.frame) (g.O.Order.rank_of_cell order s.frame) orders found.inside _
-      found.numbers found.musts made.table rendered ranks (made.values c.in_ok-system.ensures.count) made.trail made.settled c.in_ok-decisions.ensures.items refl
-      c.torn-torn.result c.torn-torn.ensures c.frame-frame.ensures refl c.settle_first.new.self c.settle_first.ensures.same c.settle_first.ensures.follows
+    found.numbers found.musts made.table rendered ranks (made.values c.in_ok-system.ensures.count) made.trail made.settled c.in_ok-decisions.ensures.items refl
+    c.torn-torn.result c.torn-torn.ensures c.frame-frame.ensures refl c.settle_first.new.self c.settle_first.ensures.same c.settle_first.ensures.follows

@@ -16,7 +16,7 @@ returns-in-Ok-clause-follows c S may =
     let then = c.settle-self.ensures in
     let settles = c.in-Ok.ensures.settles S (may_serve S old c.args.torn may whole) may.unset in
     opened S old c.args.torn may _ (record { system = then.kept.system ∙ first.kept.system; table = then.kept.table ∙ first.kept.table }) then.same.ranks then.same.decisions (grows_then first.grows then.grows) then.settled
-      (stands_again S old c.args.torn may whole b first.kept all settles _ _ (then.stands S (again S old c.args.torn may whole b first.kept all settles _ refl refl)))
+    (stands_again S old c.args.torn may whole b first.kept all settles _ _ (then.stands S (again S old c.args.torn may whole b first.kept all settles _ refl refl)))
 
 pub returns-in_default-clause-follows : goal.returns-in_default-clause-follows
 returns-in_default-clause-follows c S may =

@@ -8,7 +8,7 @@ pub is_on-requires : goal.is_on-requires
 is_on-requires c = omega (arith, c.loop-cell-test.true, c.places-cell-end.ensures.value, places_within c.args.self.now.frame)
 
 pub loop-cell-preserved : goal.loop-cell-preserved
-loop-cell-preserved c = 
+loop-cell-preserved c =
     let was = c.loop-cell.invariant in
     record {
       long = search rules;
