@@ -1,5 +1,5 @@
 -- A granted go of an opened search is the one of its definition.
-use Rattle.std.proofs.Common.{◌≡◌, ℕ, List, [], ◌∷◌, ◌++◌, Some, Option, refl, sym, ap, ◌∙◌, subst}
+use Rattle.std.proofs.Common.{◌≡◌, ℕ, List, [], Some, Option, refl, sym, ap, ◌∙◌, subst}
 use Rattle.std.specs.Option.{option_map_or}
 use Rattle.rules.specs.declared.rule.Rule.{Rule}
 use Rattle.rolls.specs.Rolls.{Surface}
@@ -7,7 +7,6 @@ use Rattle.systems.specs.Systems.{Sys, at}
 use Rattle.systems.specs.Spaces.{system_of}
 use Rattle.systems.specs.Trails.{Held}
 use Rattle.histories.specs.Searches.{Stands, no_choice, State, fresh, Reply, tells_find, Go}
-use Rattle.histories.specs.Searches as searches
 use Rattle.histories.specs.Going.{go}
 use Rattle.histories.proofs.Going.{go_computed}
 use Rattle.histories.proofs.Standing.{stands_push}

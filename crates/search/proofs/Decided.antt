@@ -1,26 +1,26 @@
 -- A decision for the first rank whose class is unknown: what is held then may be settled, and the record follows the search of the system.
-use Rattle.std.proofs.Common.{Vec, Global, ◌⊎◌, ◌≡◌, ℕ, zero, suc, ◌+◌, ◌<◌, ◌≤◌, Bool, true, false, List, [], ◌∷◌, ◌++◌, map, length, drop, get_or, set, Some, None, Option, slice_index_or, vec_len, refl, sym, ap, ◌∙◌, subst, inl, inr, arith, append-nil, append_assoc, length-set}
+use Rattle.std.proofs.Common.{Vec, Global, ◌⊎◌, ◌≡◌, ℕ, zero, suc, ◌+◌, ◌<◌, ◌≤◌, Bool, false, List, [], ◌∷◌, ◌++◌, length, drop, set, Some, slice_index_or, refl, sym, ap, ◌∙◌, subst, inl, inr, arith}
 use Rattle.std.proofs.Math.Seq.{drop-append_seam}
 use Rattle.std.proofs.lemmas.Bool.{cases_lt}
-use Rattle.std.proofs.lemmas.List.{get_or-set_same, length_push}
+use Rattle.std.proofs.lemmas.List.{get_or-set_same}
 use Rattle.codes.specs.declared.value.Value.{Value}
-use Rattle.codes.specs.declared.value.Value.TheVariants.{Off, On, Unknown}
+use Rattle.codes.specs.declared.value.Value.TheVariants.{Unknown}
 use Rattle.codes.specs.Codes.{is_unknown}
 use Rattle.codes.specs.Laws.{known}
 use Rattle.gathering.specs.Systems.{class_count}
-use Rattle.systems.specs.Systems.{In, Sys, at, Below, Proper}
+use Rattle.systems.specs.Systems.{Sys, at, Below, Proper}
 use Rattle.systems.specs.Settling.{Least, Dead}
 use Rattle.systems.specs.Trails.{Trailed, not_yet, one_more, Held, hold, hold_if, Grows, QuietBut}
 use Rattle.systems.proofs.Base.{in_get_d, known_unknown}
 use Rattle.systems.proofs.Settle.{set_adds}
-use Rattle.systems.proofs.Trails.{trailed_adds, trailed_long, trailed_then, quiet_still, grows_then}
+use Rattle.systems.proofs.Trails.{trailed_adds, trailed_long, trailed_then, quiet_still}
 use Rattle.histories.specs.Searches.{sets, base, first_unknown}
 use Rattle.histories.specs.Searches as searches
 use Rattle.histories.proofs.Deciding.{decided_least, decided_dead, known_still}
 use Rattle.settling.specs.Boards.{Kept, held_of, settled_len, trail_len, trail_of, unsettled_of, values_of}
 use Rattle.search.specs.Decided.{first}
 use Rattle.search.specs.Moves.{MayDecide, MaySettle}
-use Rattle.search.specs.Stacks.{FirstRank, Stack, StandsAs, all_meant, decided, decided_in, is_contradiction, meant, ranked, undecided}
+use Rattle.search.specs.Stacks.{Stack, StandsAs, all_meant, decided, decided_in, is_contradiction, meant, ranked, undecided}
 use Rattle.search.specs.Standings.{Follows, Renders}
 use Rattle.settling.specs.declared.board.Board.{Board}
 use Rattle.search.specs.declared.record.Record.{Record}

@@ -1,5 +1,5 @@
 -- A search that is opened follows the system from the first settling on.
-use Rattle.std.proofs.Common.{Vec, Global, ◌≡◌, ℕ, ◌+◌, ◌*◌, ◌<◌, Bool, true, false, List, [], ◌∷◌, ◌++◌, map, length, drop, Some, None, slice_index, slice_index_or, vec_len, refl, sym, ap, ◌∙◌, subst, arith, append-nil}
+use Rattle.std.proofs.Common.{Vec, Global, ◌≡◌, ℕ, ◌+◌, ◌*◌, Bool, true, false, List, [], ◌∷◌, ◌++◌, length, slice_index, vec_len, refl, sym, ap, ◌∙◌, subst, arith, append-nil}
 use Rattle.std.proofs.lemmas.List.FromFn.{map-range_with_len_more}
 use Rattle.frames.specs.Frames.{cells}
 use Rattle.rules.specs.declared.rule.Rule.{Rule}
@@ -14,16 +14,14 @@ use Rattle.classes.specs.Needed.{musts_in}
 use Rattle.classes.specs.Numbers.{Numbers}
 use Rattle.gathering.specs.Rendering.{SameInstances, kept}
 use Rattle.gathering.specs.Systems.{instances_of}
-use Rattle.gathering.specs.Systems as gathering
 use Rattle.codes.specs.declared.value.Value.{Value}
 use Rattle.systems.specs.Systems.{Sys, at, Below}
-use Rattle.systems.specs.Settling.{Settles, Meets, Least, Dead, Closed}
+use Rattle.systems.specs.Settling.{Settles, Meets, Least, Dead}
 use Rattle.systems.specs.Spaces.{all_instances, classes_by_rank, start_of, system_of}
-use Rattle.systems.specs.Trails.{Trailed, not_yet, Held, Grows, QuietBut}
+use Rattle.systems.specs.Trails.{Trailed, not_yet, Grows, QuietBut}
 use Rattle.systems.proofs.Base.{never}
 use Rattle.systems.proofs.Spaces.{solutions_right}
-use Rattle.systems.proofs.Settle.{settles_least, meets_dead, steps_add}
-use Rattle.systems.proofs.Trails.{grows_then}
+use Rattle.systems.proofs.Settle.{settles_least, meets_dead}
 use Rattle.search.specs.declared.standing.Decision.{Decision}
 use Rattle.settling.specs.Boards.{Kept, Serves, held_of, settled_len, trail_len, trail_of, unsettled_of, values_of}
 use Rattle.classes.specs.declared.classes.Classes.{Classes}

@@ -1,5 +1,5 @@
 -- The first rank whose class is unknown: from one rank on, of all, and as the search's definition says it.
-use Rattle.std.proofs.Common.{◌≡◌, ℕ, zero, suc, ◌+◌, ◌-◌, ◌<◌, ◌≤◌, Bool, true, false, List, [], ◌∷◌, map, length, drop, get_or, Some, None, Option, slice_index_or, refl, sym, ap, ◌∙◌, inl, inr, arith}
+use Rattle.std.proofs.Common.{◌≡◌, ℕ, zero, suc, ◌<◌, true, false, List, [], ◌∷◌, map, length, get_or, Some, None, refl, sym, ap, ◌∙◌, inl, inr, arith}
 use Rattle.std.proofs.lemmas.List.{ext_get_or}
 use Rattle.std.proofs.lemmas.Bool.{cases_lt}
 use lib.ListN.{length-map}
@@ -7,7 +7,7 @@ use Rattle.codes.specs.declared.value.Value.{Value}
 use Rattle.codes.specs.declared.value.Value.TheVariants.{Off, On, Unknown}
 use Rattle.codes.specs.Codes.{is_unknown}
 use Rattle.codes.specs.Laws.{known}
-use Rattle.systems.specs.Systems.{In, Sys, at, Below, Proper}
+use Rattle.systems.specs.Systems.{Sys, at, Below, Proper}
 use Rattle.systems.proofs.Base.{never, known_unknown, view, get_d_in}
 use Rattle.systems.proofs.Solutions.{at_map}
 use Rattle.histories.specs.Searches.{first_unknown}

@@ -1,17 +1,15 @@
 -- How a search stands once its board is settled.
-use Rattle.std.proofs.Common.{◌≡◌, ℕ, ◌<◌, Bool, true, false, List, length, Some, None, Option, sym, ◌∙◌, arith}
+use Rattle.std.proofs.Common.{◌≡◌, ℕ, ◌<◌, false, List, length, Some, None, ◌∙◌, arith}
 use Rattle.codes.specs.declared.value.Value.{Value}
 use Rattle.codes.specs.Codes.{is_unknown}
-use Rattle.codes.specs.Laws.{known}
-use Rattle.systems.specs.Systems.{Sys, at, Below}
-use Rattle.systems.specs.Settling.{Settles, Meets, Least, Dead}
-use Rattle.systems.proofs.Base.{view, known_unknown}
-use Rattle.systems.proofs.Settle.{settles_least, meets_dead, steps_add, steps_long}
+use Rattle.systems.specs.Systems.{Sys, at}
+use Rattle.systems.specs.Settling.{Settles}
+use Rattle.systems.proofs.Settle.{settles_least, steps_add, steps_long}
 use Rattle.settling.specs.Boards.{Serves, values_of}
 use Rattle.search.specs.Moves.{MaySettle}
 use Rattle.histories.proofs.Deciding.{known_still}
 use Rattle.search.specs.declared.standing.Standing.TheVariants.{Find, Choice}
-use Rattle.search.specs.Stacks.{FirstFrom, FirstRank, StandsAs, find_in, ranked}
+use Rattle.search.specs.Stacks.{FirstFrom, StandsAs, ranked}
 use Rattle.search.specs.Standings.{Renders}
 use Rattle.settling.specs.declared.board.Board.{Board}
 use Rattle.search.specs.declared.record.Record.{Record}

@@ -1,12 +1,11 @@
 -- A choice and a turn are the moves of the search's definition, and what a turn takes off the trail gives back what was held.
-use Rattle.std.proofs.Common.{Vec, Global, ◌⊎◌, ◌≡◌, ℕ, zero, suc, ◌+◌, ◌<◌, ◌≤◌, Bool, true, false, List, [], ◌∷◌, ◌++◌, map, length, take, drop, get_or, set, min, Some, None, Option, slice_index_or, vec_len, refl, sym, ap, ◌∙◌, subst, inl, inr, arith}
+use Rattle.std.proofs.Common.{Vec, Global, ◌≡◌, ℕ, zero, suc, ◌<◌, ◌≤◌, Bool, true, false, List, [], ◌∷◌, ◌++◌, length, take, get_or, min, Some, None, slice_index_or, refl, sym, ap, ◌∙◌, subst, inl, inr, arith}
 use Rattle.std.proofs.lemmas.Bool.{cases_lt}
-use Rattle.std.proofs.lemmas.List.{get_or_append_left, length_push, length-append, length-take, take-append-le}
+use Rattle.std.proofs.lemmas.List.{get_or_append_left, length_push, length-append, take-append-le}
 use Rattle.std.proofs.Math.Seq.{get_or-append_seam, take-append_seam}
 use Rattle.codes.specs.declared.value.Value.{Value}
-use Rattle.codes.specs.Laws.{known}
 use Rattle.systems.specs.Systems.{Sys, at, Proper}
-use Rattle.systems.specs.Settling.{Least, Dead}
+use Rattle.systems.specs.Settling.{Least}
 use Rattle.systems.specs.Trails.{Trailed, not_yet, one_more, Held, hold, Grows}
 use Rattle.systems.proofs.Base.{never, in_get_d}
 use Rattle.systems.proofs.Trails.{grows_then, trailed_long}
@@ -15,8 +14,8 @@ use Rattle.histories.specs.Searches as searches
 use Rattle.settling.specs.Boards.{held_of, settled_len, trail_len, trail_of, values_of}
 use Rattle.settling.specs.Boards.{Kept}
 use Rattle.search.specs.Decided.{first}
-use Rattle.search.specs.Moves.{HasStep, MayDecide, turns_back}
-use Rattle.search.specs.Stacks.{FirstRank, LastOff, Stack, StandsAs, all_meant, decided, decided_in, is_contradiction, is_told, meant, ranked, undecided}
+use Rattle.search.specs.Moves.{MayDecide, turns_back}
+use Rattle.search.specs.Stacks.{FirstRank, LastOff, Stack, StandsAs, all_meant, decided, decided_in, is_contradiction, is_told, ranked, undecided}
 use Rattle.search.specs.Standings.{Follows, Renders, state_of}
 use Rattle.settling.specs.declared.board.Board.{Board}
 use Rattle.search.specs.declared.record.Record.{Record}
@@ -25,7 +24,6 @@ use Rattle.search.specs.declared.standing.Standing.{Standing}
 use Rattle.search.specs.declared.standing.Standing.TheVariants.{Contradiction, Find, Told, Choice}
 use Rattle.search.proofs.Decided.{hold_is, meant_push, renders_kept, stack_trailed}
 use Rattle.search.proofs.Ranks.{is_unknown_true, rank_first}
-use Rattle.search.proofs.Settled.{values_long}
 
 -- ---- a choice
 module _ (S : Sys) (r : Record) (follows : Follows r S) (rank : ℕ) (at_choice : r.standing ≡ Choice rank) where

@@ -1,11 +1,10 @@
 -- Steps one after another, and the call of go that takes them.
 use Rattle.std.specs.Prelude.{unwrap_or}
-use Rattle.std.proofs.Common.{◌-◌, IfSome, MatchOption, Vec, Global, take, ◌++◌, vec_len, ◌≡◌, ℕ, zero, suc, ◌+◌, ◌<◌, ◌≤◌, Bool, true, false, List, [], ◌∷◌, length, Some, None, Option, slice_index_or, refl, sym, ap, ◌∙◌, subst, inl, inr, arith}
-use Rattle.codes.specs.declared.value.Value.{Value}
+use Rattle.std.proofs.Common.{◌-◌, IfSome, MatchOption, Vec, Global, take, ◌++◌, vec_len, ◌≡◌, ℕ, zero, suc, ◌+◌, ◌<◌, ◌≤◌, Bool, true, false, List, [], ◌∷◌, length, Some, None, Option, slice_index_or, refl, sym, ap, ◌∙◌, subst, arith}
 use Rattle.systems.specs.Systems.{Sys, at}
 use Rattle.systems.proofs.Base.{never}
 use Rattle.systems.specs.Settling.{Least}
-use Rattle.histories.specs.Searches.{sets, choose, turn, tells_find, State, Says, stepped, Move, Reply, Go, goes_on, pauses, tells_it, is_done, tell, finish, paused}
+use Rattle.histories.specs.Searches.{sets, choose, turn, tells_find, State, stepped, Move, Reply, Go, goes_on, pauses, tells_it, is_done, tell, finish, paused}
 use Rattle.settling.specs.Boards.{held_of, settled_len, trail_len, values_of}
 use Rattle.search.specs.Decided.{first}
 use Rattle.search.specs.Answers.{steps_of}

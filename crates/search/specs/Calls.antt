@@ -1,18 +1,17 @@
 -- What the calls of a search answer, and what a search shows.
-use Rattle.std.specs.Prelude.{◌≡◌, ℕ, suc, ◌-◌, ◌*◌, ◌^◌, Bool, true, false, cond, not, ◌&&◌, List, [], Some, None, Option, Ok, Err, Result, nat_le, nat_lt, vec_len}
+use Rattle.std.specs.Prelude.{◌≡◌, ℕ, suc, ◌-◌, ◌*◌, ◌^◌, Bool, true, false, cond, ◌&&◌, List, [], Some, None, Option, Ok, Err, Result, nat_le, nat_lt, vec_len}
 use Rattle.std.specs.Option.{option_map_or}
 use Rattle.rules.specs.declared.rule.Rule.{Rule}
 use Rattle.rolls.specs.Rolls.{Surface}
 use Rattle.pages.specs.Pages.{Written}
 use Rattle.pages.specs.declared.fault.PageFault.TheVariants.{Short}
 use Rattle.systems.specs.Systems.{Sys}
-use Rattle.systems.specs.Spaces.{spread, system_of}
 use Rattle.histories.specs.Searches.{State, fresh, Reply, tells_find, done, paused, Go}
 use Rattle.histories.specs.Going.{go}
 use Rattle.settling.specs.Boards.{values_of}
 use Rattle.search.specs.Answers.{steps_of}
-use Rattle.search.specs.Moves.{reached, reply_in}
-use Rattle.search.specs.Opening.{Searches, found_cells, found_text}
+use Rattle.search.specs.Moves.{reached}
+use Rattle.search.specs.Opening.{Searches, found_text}
 use Rattle.search.specs.Stacks.{find_in}
 use Rattle.search.specs.Standings.{state_of}
 use Rattle.search.specs.declared.answer.Answer.{Answer}

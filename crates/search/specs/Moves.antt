@@ -1,11 +1,10 @@
 -- What the parts of a go come to, in the words of the search's definition.
-use Rattle.std.specs.Prelude.{◌≡◌, ℕ, ◌+◌, ◌*◌, ◌<◌, ◌≤◌, Bool, true, false, min, List, [], Some, None, Option, vec_len, slice_index_or}
+use Rattle.std.specs.Prelude.{◌≡◌, ℕ, ◌+◌, ◌*◌, ◌<◌, ◌≤◌, Bool, true, false, min, [], Some, None, Option, vec_len, slice_index_or}
 use Rattle.codes.specs.Codes.{is_unknown}
 use Rattle.systems.specs.Systems.{Sys, at, Below}
 use Rattle.systems.specs.Settling.{Least}
 use Rattle.systems.specs.Trails.{QuietBut}
-use Rattle.histories.specs.Searches.{State, Says, found, stepped, finished, Move, Reply, tells_find, done, paused, Go, bit, index}
-use Rattle.histories.specs.Searches as searches
+use Rattle.histories.specs.Searches.{stepped, Move, Reply, tells_find, done, paused, Go, bit, index}
 use Rattle.search.specs.Answers.{steps_of}
 use Rattle.settling.specs.Boards.{held_of, settled_len, trail_len, trail_of, unsettled_of, values_of}
 use Rattle.search.specs.Decided.{first}

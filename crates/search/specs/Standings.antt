@@ -1,5 +1,5 @@
 -- When a search stands as it is defined for a system.
-use Rattle.std.specs.Prelude.{◌≡◌, ℕ, ◌+◌, ◌<◌, ◌≤◌, true, false, List, length, vec_len, slice_index_or}
+use Rattle.std.specs.Prelude.{◌≡◌, ℕ, ◌+◌, ◌<◌, ◌≤◌, false, length, vec_len, slice_index_or}
 use Rattle.codes.specs.Tables.{code_at, code_in}
 use Rattle.gathering.specs.Systems.{class_count, instances_of}
 use Rattle.systems.specs.declared.instance.Instance.{Instance}

@@ -1,4 +1,4 @@
-use Rattle.std.proofs.Common.{◌≡◌, ℕ}
+use Rattle.std.proofs.Common.{◌≡◌}
 use Rattle.systems.specs.Spaces.{classes_by_rank}
 use Rattle.search.proofs.opening.ranked_classes.Given as goal
 

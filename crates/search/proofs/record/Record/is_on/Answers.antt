@@ -1,4 +1,4 @@
-use Rattle.std.proofs.Common.{◌≡◌, true, sym, ap, ◌∙◌, arith}
+use Rattle.std.proofs.Common.{sym, ap, ◌∙◌, arith}
 use Rattle.search.specs.Stacks.{is_on}
 use Rattle.search.proofs.Finds.{cell_on}
 use Rattle.search.proofs.record.Record.is_on.Goals as goal

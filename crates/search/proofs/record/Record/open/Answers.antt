@@ -1,4 +1,4 @@
-use Rattle.std.proofs.Common.{◌≡◌, ℕ, refl, sym, ap, subst, ◌∙◌}
+use Rattle.std.proofs.Common.{◌≡◌, refl, sym, ap, subst, ◌∙◌}
 use Rattle.frames.specs.Frames.{cells}
 use Rattle.frames.specs.declared.frame.Frame.{Frame}
 use Rattle.rolls.specs.Laws.{Orders}

@@ -12,7 +12,7 @@ returns-then-not-contains-clause-open c s rule cell opened =
 pub returns-clause-open : goal.returns-clause-open
 returns-clause-open c s rule cell opened =
     let here : c.args.self.now.record ≡ Some c.in_ok-record.record.now = search rules in
-    (c.go.new.self, refl, still_searches s rule cell c.in_ok-record.record.now c.go.new.self (opened_by opened here) c.args.steps c.go.result c.go.ensures.same c.go.ensures.goes)
+    (c.go.new.self, refl, still_searches s rule cell c.in_ok-record.record.now c.go.new.self (opened_by opened here) _ c.go.result c.go.ensures.same c.go.ensures.goes)
 
 pub returns-clause-goes : goal.returns-clause-goes
 returns-clause-goes c s rule cell opened =
