@@ -1,16 +1,15 @@
 -- A page that is listed to its end has handed on every filling that keeps the ties and the rule.
-use Rattle.std.proofs.Common.{◌≡◌, ℕ, ◌+◌, ◌≤◌, min, Bool, true, false, List, [], ◌∷◌, ◌++◌, map, length, Some, None, refl, sym, ap, ◌∙◌, subst, inl, inr, arith, append-nil, append_assoc}
+use Rattle.std.proofs.Common.{◌≡◌, ℕ, ◌+◌, min, Bool, true, false, List, [], ◌∷◌, ◌++◌, map, Some, refl, sym, ap, ◌∙◌, subst, arith, append-nil, append_assoc}
 use Rattle.std.proofs.lemmas.List.{map-append, length_push, length-map}
 use Rattle.frames.specs.Frames.{cells}
 use Rattle.rules.specs.declared.rule.Rule.{Rule}
 use Rattle.rolls.specs.Laws.{Orders}
-use Rattle.rolls.specs.Rolls.{Surface, Roll}
+use Rattle.rolls.specs.Rolls.{Surface}
 use Rattle.printing.specs.Printed.{found_line}
-use Rattle.systems.specs.Systems.{In, Sys}
 use Rattle.systems.specs.Spaces.{spread, system_of}
 use Rattle.systems.proofs.Base.{never}
 use Rattle.histories.specs.Listed.{Listed, told_of}
-use Rattle.histories.specs.Searches.{State, fresh, Reply, tells_find, done, paused, Go, finds, Calls, no_call, called}
+use Rattle.histories.specs.Searches.{fresh, Reply, tells_find, done, paused, Go, finds, Calls, no_call, called}
 use Rattle.histories.proofs.Listing.{histories_listed}
 use Rattle.search.specs.Answers.{steps_of}
 use Rattle.search.specs.Calls.{Goes, IsOpen, find_of, reply_of, state_in, text_of, told_by}
@@ -19,7 +18,7 @@ use Rattle.search.specs.declared.answer.Answer.{Answer}
 use Rattle.search.specs.declared.answer.Answer.TheVariants.{Found, Done, Paused}
 use Rattle.search.proofs.Finds.{opened_text}
 use Rattle.search.specs.declared.search.Search.{Search}
-use Rattle.listing.specs.Handing.{Handed, PageHanded, TakenAndRested, WentOn, is_done, nothing, page_of, part_of, rested, tally_after, tally_of, text_in, took}
+use Rattle.listing.specs.Handing.{Handed, PageHanded, TakenAndRested, WentOn, is_done, nothing, part_of, rested, tally_after, tally_of, text_in, took}
 
 -- texts taken after others
 pub handed_then : {A : Type 0} {takes : A → List ℕ → A → Type 0} {rests : A → A → Type 0} {a b c : A} {xs ys : List (List ℕ)} → Handed takes rests a xs b → Handed takes rests b ys c → Handed takes rests a (xs ++ ys) c

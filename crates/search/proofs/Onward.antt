@@ -1,9 +1,8 @@
 -- A choice and a turn lead to a later place, and no place is past the last.
 use Rattle.std.specs.Prelude.{unwrap_or}
-use Rattle.std.proofs.Common.{IfSome, MatchOption, None, Option, Vec, Global, ◌≡◌, ℕ, zero, suc, ◌+◌, ◌*◌, ◌-◌, ◌^◌, ◌<◌, ◌≤◌, false, List, [], ◌∷◌, ◌++◌, length, take, Some, slice_index_or, vec_len, refl, sym, ap, ◌∙◌, subst, arith}
+use Rattle.std.proofs.Common.{IfSome, MatchOption, None, Option, Vec, Global, ◌≡◌, ℕ, zero, suc, ◌+◌, ◌*◌, ◌^◌, ◌<◌, ◌≤◌, false, List, [], ◌∷◌, ◌++◌, length, take, Some, slice_index_or, vec_len, refl, sym, ap, ◌∙◌, subst, arith}
 use lib.ListN.{length-map}
 use Rattle.histories.specs.Searches.{index}
-use Rattle.histories.specs.Searches as searches
 use Rattle.histories.proofs.Sides.{bit_le}
 use Rattle.histories.proofs.Index.{index_high, index_push, index_turn}
 use Rattle.std.specs.Option.{option_map_or}

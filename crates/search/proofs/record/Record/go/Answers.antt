@@ -1,4 +1,4 @@
-use Rattle.std.proofs.Common.{rules, ◌≡◌, ℕ, refl, sym, subst, arith}
+use Rattle.std.proofs.Common.{ap, rules, ◌≡◌, ℕ, refl, sym, subst, arith}
 use Rattle.search.specs.Standings.{state_of}
 use Rattle.search.specs.Moves.{HasStep, reached}
 use Rattle.search.proofs.Onward.{further, last_onward}

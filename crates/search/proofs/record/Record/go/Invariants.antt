@@ -1,4 +1,4 @@
-use Rattle.std.proofs.Common.{◌≡◌, ℕ, ◌+◌, ◌≤◌, false}
+use Rattle.std.proofs.Common.{◌≡◌, ◌+◌, ◌≤◌, false}
 use Rattle.systems.specs.Systems.{Sys}
 use Rattle.search.specs.Moves.{reached}
 use Rattle.search.specs.Records.{AsOpened}
