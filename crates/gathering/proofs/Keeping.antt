@@ -1,11 +1,15 @@
 -- The instances that are kept are those of all spots.
-use Rattle.std.proofs.Common.{◌≡◌, ℕ, zero, suc, ◌+◌, ◌*◌, ◌/◌, ◌%◌, ◌<◌, Bool, true, false, ◌&&◌, eqb, List, [], ◌∷◌, ◌++◌, get_or, refl, sym, ◌∙◌, subst, below_more, inl, inr, arith}
+use Rattle.std.proofs.Common.{◌≡◌, ℕ, zero, suc, ◌+◌, ◌*◌, ◌/◌, ◌%◌, ◌<◌, Bool, true, false, ◌&&◌, eqb, List, [], ◌∷◌, ◌++◌, get_or, length, ap, refl, sym, ◌∙◌, subst, below_more, inl, inr, arith}
 use lib.Pointwise.{pointwise, bytes_decides}
 use Rattle.std.specs.List.{list_any, All}
 use Rattle.std.specs.Bool.{MatchBool}
 use Rattle.std.specs.List.Sorted.{IsPermutation}
-use Rattle.std.proofs.lemmas.Bool.{and_parts, eqb-true, or_cases}
-use Rattle.std.proofs.lemmas.List.Sorted.{All-permutation}
+use Rattle.std.proofs.Math.ListN.{get_or-eq_default}
+use Rattle.std.proofs.lemmas.List.{get_or_default}
+use Rattle.std.proofs.lemmas.List.Sums.{sum_by-cons}
+use Rattle.std.proofs.lemmas.Bool.{and_parts, cases_lt, eqb-true, or_cases}
+use Rattle.std.specs.List.{sum_by}
+use Rattle.std.proofs.lemmas.List.Sorted.{All-permutation, sum_by-IsPermutation}
 use Rattle.frames.specs.Radix.{joined, joined_below, high_below, last_of, middle_of, first_of}
 use Rattle.std.proofs.lemmas.Nat.{mod_below}
 use Rattle.planes.specs.declared.tie.Tie.{Tie}
@@ -13,7 +17,8 @@ use Rattle.planes.specs.Meaning.{Meaning}
 use Rattle.rolls.specs.Rolls.{Surface, ninth, surface}
 use Rattle.classes.specs.Numbers.{Numbers}
 use Rattle.systems.specs.declared.instance.Instance.{Instance}
-use Rattle.systems.specs.Systems.{In, here, there}
+use Rattle.systems.specs.Systems.{In, here, there, sum_of}
+use Rattle.systems.specs.Alike.{Rearranged, SameLooks}
 use Rattle.systems.specs.Spaces.{instance_at, all_instances}
 use Rattle.systems.proofs.Base.{get_d_in}
 use Rattle.systems.proofs.Gathered.{in_left, in_right, in_either, instance_in, in_instances}
@@ -31,12 +36,16 @@ at_number s n k = instance_at s n (k / (s.frame.width + 18) / (s.frame.height + 
 pub record Spotted (s : Surface) (n : Numbers) (m : ℕ) (i : Instance) : Type 0 where
   pub number : ℕ
   pub below : number < m
-  pub same : i ≡ at_number s n number
+  pub same : SameLooks i (at_number s n number)
 
--- the instances of the first m spots are kept, and no others; and what is known is kept
+-- for each of the first m spots an instance is kept that asks the same, and no others
 pub record Kept (s : Surface) (n : Numbers) (m : ℕ) (is : List Instance) : Type 0 where
-  pub all : (k : ℕ) → k < m → In (at_number s n k) is
+  pub all : (k : ℕ) → k < m → (j : Instance) × In j is × SameLooks (at_number s n k) j
   pub only : (i : Instance) → In i is → Spotted s n m i
+
+-- what asks the same as another is asked the same by it
+turned : {i j : Instance} → SameLooks i j → SameLooks j i
+turned l = record { centre = sym l.centre; successor = sym l.successor; neighbours = λ g. sym (l.neighbours g) }
 
 module _ (s : Surface) (n : Numbers) where
   pub kept_none : (is : List Instance) → is ≡ [] → Kept s n 0 is
@@ -46,13 +55,13 @@ module _ (s : Surface) (n : Numbers) where
   further m i w = record { number = w.number; below = omega (arith, w.below); same = w.same }
 
   -- one more that is new
-  pub kept_more : (m : ℕ) (is js : List Instance) (i : Instance) → Kept s n m is → i ≡ at_number s n m → js ≡ is ++ i ∷ [] → Kept s n (m + 1) js
+  pub kept_more : (m : ℕ) (is js : List Instance) (i : Instance) → Kept s n m is → SameLooks (at_number s n m) i → js ≡ is ++ i ∷ [] → Kept s n (m + 1) js
   kept_more m is js i old e q =
       subst (Kept s n (m + 1)) (sym q) (record {
-        all = below_more _ m (λ k l. in_left (i ∷ []) (old.all k l)) (subst (λ v. In v (is ++ i ∷ [])) e (in_right is here));
+        all = below_more (λ k. (j : Instance) × In j (is ++ i ∷ []) × SameLooks (at_number s n k) j) m (λ k l. let q = old.all k l in (q.0, in_left (i ∷ []) q.1, q.2)) (i, in_right is here, e);
         only = λ j w. elim (in_either is (i ∷ []) j w) [
           | inl v ↦ further m j (old.only j v)
-          | inr v ↦ record { number = m; below = omega arith; same = in_one j i v ∙ e }
+          | inr v ↦ record { number = m; below = omega arith; same = subst (λ k. SameLooks k (at_number s n m)) (sym (in_one j i v)) (turned e) }
         ];
       })
     where
@@ -61,16 +70,16 @@ module _ (s : Surface) (n : Numbers) where
       in_one j i (there v) = elim v [ ]
 
   -- one more that is kept already
-  pub kept_same : (m : ℕ) (is : List Instance) (i : Instance) → Kept s n m is → i ≡ at_number s n m → In i is → Kept s n (m + 1) is
+  pub kept_same : (m : ℕ) (is : List Instance) (i : Instance) → Kept s n m is → SameLooks (at_number s n m) i → In i is → Kept s n (m + 1) is
   kept_same m is i old e w =
       record {
-        all = below_more _ m old.all (subst (λ v. In v is) e w);
+        all = below_more (λ k. (j : Instance) × In j is × SameLooks (at_number s n k) j) m old.all (i, w, e);
         only = λ j v. further m j (old.only j v);
       }
 
   -- with all spots these are the instances of the surface
   pub kept_all : (m : ℕ) (is : List Instance) → m ≡ spots_of s → Kept s n m is → SameInstances is (all_instances s n)
-  kept_all m is e k = λ i. (λ w. there_is i (k.only i w), λ w. back i w)
+  kept_all m is e k = (λ i w. there_is i (k.only i w), λ i w. back i w)
     where
       columns : ℕ
       columns = s.frame.width + 18
@@ -78,16 +87,18 @@ module _ (s : Surface) (n : Numbers) where
       rows : ℕ
       rows = s.frame.height + 18
 
-      there_is : (i : Instance) → Spotted s n m i → In i (all_instances s n)
+      there_is : (i : Instance) → Spotted s n m i → (j : Instance) × In j (all_instances s n) × SameLooks i j
       there_is i w =
-          let low : w.number < spots_of s = omega (arith, w.below, e) in
-          subst (λ v. In v (all_instances s n)) (sym w.same)
-          (instance_in s n (w.number / columns / rows) (w.number / columns % rows) (w.number % columns)
-          (high_below s.frame.period rows columns w.number (omega arith) (omega arith) low)
-          (mod_below (w.number / columns) rows (omega arith))
-          (mod_below w.number columns (omega arith)))
+          let low : w.number < spots_of s = omega (arith, w.below, e) in (
+            at_number s n w.number,
+            instance_in s n (w.number / columns / rows) (w.number / columns % rows) (w.number % columns)
+                (high_below s.frame.period rows columns w.number (omega arith) (omega arith) low)
+                (mod_below (w.number / columns) rows (omega arith))
+                (mod_below w.number columns (omega arith)),
+            w.same,
+          )
 
-      back : (i : Instance) → In i (all_instances s n) → In i is
+      back : (i : Instance) → In i (all_instances s n) → (j : Instance) × In j is × SameLooks i j
       back i w =
           let f = in_instances s n i w in
           let number = joined rows columns f.t f.j f.i in
@@ -96,7 +107,8 @@ module _ (s : Surface) (n : Numbers) where
           let j = middle_of rows columns f.t f.j f.i f.in_rows f.in_columns in
           let x = last_of rows columns f.t f.j f.i f.in_columns in
           let same : at_number s n number ≡ i = (λ h. instance_at s n (t h) (ninth (x h)) (ninth (j h))) ∙ sym f.same in
-          subst (λ v. In v is) same (k.all number low)
+          let q = k.all number low in
+          (q.0, q.1, subst (λ v. SameLooks v q.0) same q.2)
 
 -- ---- the instances do not depend on the ties
 pub tieless : (plane : Meaning) (rows : ℕ) (tie : ℕ → ℕ → Tie) (n : Numbers) → all_instances (bare plane) n ≡ all_instances (surface plane rows tie) n
@@ -158,3 +170,20 @@ if_new A B false e m = absurd (cc)
 pub if_known : (A B : Type 0) (added : Bool) → added ≡ false → MatchBool added A B → B
 if_known A B false e m = m
 if_known A B true e m = absurd (cc)
+
+-- ---- neighbours in another sequence
+sum_is : (g : ℕ → ℕ) (xs : List ℕ) → sum_of g xs ≡ sum_by g xs
+unfolding sum_of
+sum_is g [] = refl
+sum_is g (x ∷ xs) = ap (λ (n : ℕ). g x + n) (sum_is g xs) ∙ sym (sum_by-cons g x xs)
+
+pub rearranged : (xs ys : List ℕ) → IsPermutation xs ys → Rearranged xs ys
+rearranged xs ys moved g = sum_is g xs ∙ sym (sum_by-IsPermutation g xs ys moved) ∙ sym (sum_is g ys)
+
+-- numbers below a bound are so in every sequence
+pub below_still : (top : ℕ) → 0 < top → (xs ys : List ℕ) → IsPermutation xs ys → ((k : ℕ) → k < length xs → get_or xs k 0 < top) → (k : ℕ) → k < 8 → get_or ys k 0 < top
+below_still top some xs ys moved h k l =
+    elim (cases_lt k (length ys)) [
+      | inl m ↦ All-permutation (λ x. x < top) xs ys moved (λ j d q. subst (λ x. x < top) (get_or_default xs j 0 d q) (h j q)) k 0 m
+      | inr m ↦ subst (λ x. x < top) (sym (get_or-eq_default ys 0 m)) some
+    ]

@@ -11,12 +11,13 @@ use Rattle.rolls.specs.Rolls.{Surface, surface}
 use Rattle.classes.specs.declared.classes.Classes.{Classes}
 use Rattle.classes.specs.Numbers.{Numbers}
 use Rattle.systems.specs.declared.instance.Instance.{Instance}
+use Rattle.systems.specs.Alike.{Covers}
 use Rattle.systems.specs.Systems.{In, Mentions}
 use Rattle.gathering.specs.Bounds.{nowhere}
 
--- two lists have the same instances, however often and in whatever sequence
+-- two lists ask the same: each instance of one asks what one of the other asks, however often and in whatever sequence
 abbrev pub SameInstances : List Instance → List Instance → Type 0
-SameInstances is js = (i : Instance) → (In i is → In i js) × (In i js → In i is)
+SameInstances is js = Covers is js × Covers js is
 
 -- a plane without ties
 abbrev pub bare : Meaning → Surface

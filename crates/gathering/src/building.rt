@@ -1,6 +1,7 @@
 ghost use Rattle.std.specs.Prelude.{◌≡◌, ℕ, ◌+◌, ◌≤◌, IfOk, vec_len};
 ghost use Rattle.systems.specs.Spaces.{all_instances};
-ghost use Rattle.gathering.specs.Bounds.{EachNames};
+ghost use Rattle.systems.specs.Alike.{SameLooks};
+ghost use Rattle.gathering.specs.Bounds.{EachNames, Names};
 ghost use Rattle.gathering.specs.Rendering.{Classed, SameInstances, bare, kept};
 
 use crate::ground::Ground;
@@ -9,7 +10,16 @@ use std::alloc::{AllocError, Global};
 use std::collections::HashSet;
 use systems::Instance;
 
-// The instances of every spot, equal ones kept once.
+// The same instance with its neighbours in rising sequence, so that instances that ask the same are equal.
+fn in_sequence(mut instance: Instance) -> Instance
+    ensures looks { SameLooks instance result }
+    ensures named { (n : ℕ) → Names n instance → Names n result }
+{
+    instance.neighbours.sort_unstable();
+    instance
+}
+
+// The instances of every spot, those that ask the same kept once.
 pub(crate) fn gathered<P: Plane>(
     heap: Global,
     ground: &Ground<'_, P>,
@@ -21,7 +31,7 @@ pub(crate) fn gathered<P: Plane>(
     let mut instances = Vec::new(heap);
     let mut known = HashSet::new(heap);
     for number in 0..ground.spots() {
-        let instance = ground.instance_at(ground.spot(number));
+        let instance = in_sequence(ground.instance_at(ground.spot(number)));
         if known.insert(instance)? {
             instances.push(instance)?;
         }

@@ -1,12 +1,19 @@
 -- A granted go of an opened search is the one of its definition.
-use Rattle.std.proofs.Common.{◌≡◌, ℕ, List, [], Some, Option, refl, sym, ap, ◌∙◌, subst}
+use Rattle.std.proofs.Common.{◌≡◌, ℕ, List, [], Some, Option, set, refl, sym, ap, ◌∙◌, subst}
 use Rattle.std.specs.Option.{option_map_or}
 use Rattle.rules.specs.declared.rule.Rule.{Rule}
 use Rattle.rolls.specs.Rolls.{Surface}
 use Rattle.systems.specs.Systems.{Sys, at}
 use Rattle.systems.specs.Spaces.{system_of}
 use Rattle.systems.specs.Trails.{Held}
-use Rattle.histories.specs.Searches.{Stands, no_choice, State, fresh, Reply, tells_find, Go}
+use Rattle.codes.specs.declared.value.Value.{Value}
+use Rattle.codes.specs.Laws.{known}
+use Rattle.systems.specs.Alike.{Alike}
+use Rattle.systems.specs.Settling.{Least}
+use Rattle.systems.proofs.Alike.{least_alike, proper_alike}
+use Rattle.histories.proofs.Calls.{go_alike}
+use Rattle.histories.specs.Searches as searches
+use Rattle.histories.specs.Searches.{Stands, choice, first_unknown, no_choice, State, fresh, Reply, tells_find, Go}
 use Rattle.histories.specs.Going.{go}
 use Rattle.histories.proofs.Going.{go_computed}
 use Rattle.histories.proofs.Standing.{stands_push}
@@ -35,6 +42,13 @@ stack_stands {S} (decided {es} d g below least first_rank mark grows) =
 follows_stands : {S : Sys} {r : Record} → Follows r S → Stands S S.start (state_of r).standing
 follows_stands {S} {r} f = subst (λ (order : List ℕ). Stands S S.start (all_meant order r.decisions.items)) f.order (stack_stands f.stack)
 
+-- decisions as choices make them are so in a system that asks the same
+stands_alike : (S S' : Sys) → Alike S S' → (ρ ρ' : List Value) → ρ ≡ ρ' → {ds : List searches.Decision} → Stands S ρ ds → Stands S' ρ' ds
+stands_alike S S' a ρ ρ' e no_choice = no_choice
+stands_alike S S' a ρ ρ' e (choice {x = x} {b = b} σ l f c) =
+    choice σ (subst (λ (ρ : List Value). Least S' ρ σ) e (least_alike S S' a ρ σ l)) (ap (first_unknown (at σ)) (sym a.order) ∙ f)
+    (stands_alike S S' a (set ρ x (known b)) (set ρ' x (known b)) (ap (λ (ρ : List Value). set ρ x (known b)) e) c)
+
 reply_same : (q : Search) (r : Record) (a : Answer) → q.record ≡ Some r → reply_of q a ≡ reply_in r a
 reply_same q r (Found n) e = ap (λ (o : Option Record). tells_find (option_map_or (λ (r : Record). find_in (values_of r.board)) o [])) e
 reply_same q r (Done n) e = refl
@@ -51,7 +65,9 @@ module _ (s : Surface) (rule : Rule) (cell : ℕ → ℕ) (r r' : Record) (h : S
         same_rule = kept.rule ∙ h.same_rule;
         classes = ap (λ c. c.labels.items) kept.classes ∙ h.classes;
         inside = h.inside;
-        follows = (gone S h.follows).follows;
+        system = h.system;
+        alike = h.alike;
+        follows = (gone h.system h.follows).follows;
       }
 
   pub goes : (q q' : Search) → q.record ≡ Some r → q'.record ≡ Some r' → Goes S n q q' a
@@ -59,8 +75,9 @@ module _ (s : Surface) (rule : Rule) (cell : ℕ → ℕ) (r r' : Record) (h : S
       let was : state_in q ≡ state_of r = ap (λ (o : Option Record). option_map_or state_of o fresh) e in
       let now : state_in q' ≡ state_of r' = ap (λ (o : Option Record). option_map_or state_of o fresh) e' in
       let said : reply_of q' a ≡ reply_in r' a = reply_same q' r' a e' in
-      let moved = (gone S h.follows).go in
-      let only = go_computed.only S h.follows.board.proper n (steps_of a) (reply_in r' a) (state_of r) (state_of r') (follows_stands h.follows) moved in
+      let moved = go_alike h.system S h.alike n (steps_of a) (reply_in r' a) (state_of r) (state_of r') (gone h.system h.follows).go in
+      let stands = stands_alike h.system S h.alike h.system.start S.start h.alike.start (follows_stands h.follows) in
+      let only = go_computed.only S (proper_alike h.system S h.alike h.follows.board.proper) n (steps_of a) (reply_in r' a) (state_of r) (state_of r') stands moved in
       record {
         reply = said ∙ sym only.0 ∙ ap (λ (s : State). (go S n s).reply) (sym was);
         steps = sym only.1 ∙ ap (λ (s : State). (go S n s).steps) (sym was);

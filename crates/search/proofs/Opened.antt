@@ -21,6 +21,8 @@ use Rattle.systems.specs.Spaces.{all_instances, classes_by_rank, start_of, syste
 use Rattle.systems.specs.Trails.{Trailed, not_yet, Grows, QuietBut}
 use Rattle.systems.proofs.Base.{never}
 use Rattle.systems.proofs.Spaces.{solutions_right}
+use Rattle.systems.specs.Alike.{Alike}
+use Rattle.systems.proofs.Alike.{alike_turned, proper_alike}
 use Rattle.systems.proofs.Settle.{settles_least, meets_dead}
 use Rattle.search.specs.declared.standing.Decision.{Decision}
 use Rattle.settling.specs.Boards.{Kept, Serves, held_of, settled_len, trail_len, trail_of, unsettled_of, values_of}
@@ -126,8 +128,12 @@ by_rank_more classes cell n = map-range_with_len_more (λ k. slice_index classes
 
 -- ---- what the space, the order and the rule say
 module _ (s : Surface) (rule : Rule) (cell rank : ℕ → ℕ) (orders : Orders (cells s.frame) cell rank) (inside : TiesInside s) (r : Record) where
+  -- the system that the space, the order and the rule say, and the one of the instances that are kept
+  abbrev pub said : Sys
+  said = system_of s rule cell
+
   abbrev pub S : Sys
-  S = system_of s rule cell
+  S = record { rule = said.rule; instances = instances_of r.board.system; start = said.start; torn = said.torn; order = said.order }
 
   module _ (numbers : kept r.classes ≡ numbers_in s) (musts : r.classes.musts.items ≡ asked_after s.tie (cells s.frame) r.classes.labels.items (vec_len r.classes.lowest) (s.rows * cells s.frame)) where
     labels_are : r.classes.labels.items ≡ (numbers_in s).classes
@@ -150,6 +156,9 @@ module _ (s : Surface) (rule : Rule) (cell rank : ℕ → ℕ) (orders : Orders 
       same : SameInstances (instances_of r.board.system) (all_instances s (numbers_in s))
       same = subst (λ (n : Numbers). SameInstances (instances_of r.board.system) (all_instances s n)) numbers rendered
 
+      alike : Alike S said
+      alike = record { rule = refl; start = refl; torn = refl; order = refl; forth = same.0; back = same.1 }
+
       values_are : values_of r.board ≡ start_of (musts_in s)
       values_are = values ∙ ap start_of musts_are
 
@@ -158,10 +167,10 @@ module _ (s : Surface) (rule : Rule) (cell rank : ℕ → ℕ) (orders : Orders 
           record {
             board = record {
               rule = table;
-              there = λ i m. (same i).1 m;
-              back = λ i m. (same i).0 m;
+              there = λ i m. m;
+              back = λ i m. m;
               sized = omega (arith, ap length values_are, r.board.sized, r.board.known.values.ok.0);
-              proper = (solutions_right s rule cell inside).proper rank orders;
+              proper = proper_alike said S (alike_turned S said alike) ((solutions_right s rule cell inside).proper rank orders);
             };
             order = ap (λ (labels : List ℕ). classes_by_rank labels cell (cells s.frame)) (sym labels_are) ∙ sym ranks;
             whole = ap torn_among (sym musts_are) ∙ sym t;
@@ -180,5 +189,7 @@ module _ (s : Surface) (rule : Rule) (cell rank : ℕ → ℕ) (orders : Orders 
             same_rule = kept.rule ∙ same_rule;
             classes = ap (λ (c : Classes). c.labels.items) kept.classes ∙ labels_are;
             inside = inside;
+            system = S;
+            alike = alike;
             follows = follows S (may_open torn t);
           }

@@ -4,6 +4,7 @@ use Rattle.std.specs.declared.alloc.Global.{Global}
 use Rattle.frames.specs.declared.frame.Frame.{Frame}
 use Rattle.frames.specs.Radix.{high_below}
 use Rattle.systems.specs.declared.instance.Instance.{Instance}
+use Rattle.systems.specs.Alike.{SameLooks}
 use Rattle.systems.specs.Spaces.{instance_at}
 use Rattle.rolls.specs.Rolls.{ninth}
 use Rattle.classes.proofs.Places.{each_more}
@@ -25,8 +26,8 @@ loop-number-init g c =
       spots = λ whole. kept_none s n _ empty;
     }
 
-pub instance_at-instance-requires : goal.instance_at-instance-requires
-instance_at-instance-requires g c =
+pub instance_at-requires : goal.instance_at-requires
+instance_at-requires g c =
     let f = c.args.ground.now.frame in
     let low : c.loop-number.number < f.period * (f.height + 18) * (f.width + 18) = omega (arith, c.spots-number-end.ensures.value, c.loop-number-test.true) in
     subst (λ t. t < f.period) (sym c.spot.ensures.t) (high_below f.period (f.height + 18) (f.width + 18) c.loop-number.number (omega arith) (omega arith) low)
@@ -37,23 +38,25 @@ loop-number-preserved g c =
     let s = bare (g.P.Plane.means me.plane.now) in
     let n = kept me.classes.now in
     let m = c.loop-number.number in
-    let i = c.instance_at-instance.result in
+    let i = c.in_sequence-instance.result in
     let is = vec_items c.loop-number.instances in
     let inv = c.loop-number.invariant in
     let told = c.in_ok-insert.ensures in
     let spot = c.spot.result in
     let top = vec_len me.classes.now.lowest + 1 in
-    let same : Classed me.frame me.classes.now → i ≡ at_number s n m = λ whole.
-    c.instance_at-instance.ensures.value whole
+    let asked : Classed me.frame me.classes.now → c.instance_at.result ≡ at_number s n m = λ whole.
+    c.instance_at.ensures.value whole
     ∙ (λ h. instance_at s n (c.spot.ensures.t h) (c.spot.ensures.x h) (c.spot.ensures.y h))
     ∙ ap (λ (f : Frame). instance_at s n (m / (f.width + 18) / (f.height + 18)) (ninth (m % (f.width + 18))) (ninth (m / (f.width + 18) % (f.height + 18)))) me.framed in
+    let same : Classed me.frame me.classes.now → SameLooks (at_number s n m) i = λ whole. subst (λ j. SameLooks j i) (asked whole) c.in_sequence-instance.ensures.looks in
+    let named = c.in_sequence-instance.ensures.named top c.instance_at.ensures.named in
     elim c.if-branch.branch [
       | then-branch+in_ok-push w ↦
           let new : c.in_ok-insert.field-0 ≡ true = search rules in
           let pushed : vec_items w.push.new.self ≡ is ++ i ∷ [] = search rules in
           let stands : vec_items c.if-branch.instances ≡ is ++ i ∷ [] = ap (λ (v : Vec Instance Global). vec_items v) w.instances-is ∙ pushed in
           record {
-            named = each_more (λ k v. Names top v) nowhere is _ i stands inv.named c.instance_at-instance.ensures.named;
+            named = each_more (λ k v. Names top v) nowhere is _ i stands inv.named named;
             few = search rules;
             known = known_more c.loop-number.known.keys c.insert.new.self.keys is _ i (if_new _ _ _ new told.keys) stands inv.known;
             spots = λ whole. kept_more s n m is _ i (inv.spots whole) (same whole) stands;
