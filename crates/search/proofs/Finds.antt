@@ -12,6 +12,7 @@ use Rattle.rle.specs.Back.{ReadsAs}
 use Rattle.rle.specs.Marks.{marks_from}
 use Rattle.rle.specs.Texts.{body_text, heading_text, pattern_text}
 use Rattle.rle.proofs.Written.{round_trip}
+use Rattle.frames.specs.declared.frame.Cell.{Cell}
 use Rattle.frames.specs.declared.frame.Frame.{Frame}
 use Rattle.frames.specs.Frames.{cells}
 use Rattle.rolls.specs.Rolls.{Surface}
@@ -24,7 +25,7 @@ use Rattle.pages.specs.declared.fault.PageFault.TheVariants.{Short}
 use Rattle.search.specs.declared.fault.WriteFault.{WriteFault}
 use Rattle.search.specs.declared.fault.WriteFault.TheVariants.{Page}
 use Rattle.std.specs.Option.{option_map_or}
-use Rattle.search.specs.Calls.{IsOpen, WriteText, find_of, text_of}
+use Rattle.search.specs.Calls.{IsOpen, WriteText, cell_answer, cell_found, find_of, found_by, text_of}
 use Rattle.search.specs.Opening.{Searches, found_cells, found_text}
 use Rattle.search.specs.declared.search.Search.{Search}
 use Rattle.search.specs.Stacks.{find_in, is_on}
@@ -120,3 +121,11 @@ pub opened_reads : (q : Search) (s : Surface) (rule : Rule) (cell : ℕ → ℕ)
     ReadsAs s.frame.width s.frame.height (written rule.births rule.survivals) (spread s (find_of q)) (text_of q)
 opened_reads q s rule cell (r, e, h) =
     subst (λ (o : Option Record). ReadsAs s.frame.width s.frame.height (written rule.births rule.survivals) (spread s (option_map_or (λ (r : Record). find_in (values_of r.board)) o [])) (option_map_or found_text o [])) (sym e) (reads_as r s rule cell h)
+
+-- a cell is that of the find
+pub opened_cell : (q : Search) (s : Surface) (rule : Rule) (cell : ℕ → ℕ) → IsOpen q s rule cell → (c : Cell) → cell_answer q.record c ≡ cell_found (found_by q) s.frame (spread s (find_of q)) c
+opened_cell q s rule cell (r, e, h) c =
+    ap (λ (o : Option Record). cell_answer o c) e
+    ∙ ap (λ (f : Frame). cell_found r.found f (found_cells r) c) h.frame
+    ∙ ap (λ (classes : List ℕ). cell_found r.found s.frame (map (λ class. get_or (find_in (values_of r.board)) class false) classes) c) h.classes
+    ∙ ap (λ (o : Option Record). cell_found (option_map_or (λ (r : Record). r.found) o false) s.frame (spread s (option_map_or (λ (r : Record). find_in (values_of r.board)) o [])) c) (sym e)

@@ -1,6 +1,9 @@
 -- What the calls of a search answer, and what a search shows.
-use Rattle.std.specs.Prelude.{◌≡◌, ℕ, suc, ◌-◌, ◌*◌, ◌^◌, Bool, true, false, cond, ◌&&◌, List, [], Some, None, Option, Ok, Err, Result, nat_le, nat_lt, vec_len}
+use Rattle.std.specs.Prelude.{◌≡◌, ℕ, suc, ◌-◌, ◌*◌, ◌^◌, Bool, true, false, cond, ◌&&◌, List, [], Some, None, Option, Ok, Err, Result, nat_le, nat_lt, slice_index_or, vec_len}
 use Rattle.std.specs.Option.{option_map_or}
+use Rattle.frames.specs.declared.frame.Cell.{Cell}
+use Rattle.frames.specs.declared.frame.Frame.{Frame}
+use Rattle.frames.specs.Frames.{number_at}
 use Rattle.rules.specs.declared.rule.Rule.{Rule}
 use Rattle.rolls.specs.Rolls.{Surface}
 use Rattle.pages.specs.Pages.{Written}
@@ -11,7 +14,7 @@ use Rattle.histories.specs.Going.{go}
 use Rattle.settling.specs.Boards.{values_of}
 use Rattle.search.specs.Answers.{steps_of}
 use Rattle.search.specs.Moves.{reached}
-use Rattle.search.specs.Opening.{Searches, found_text}
+use Rattle.search.specs.Opening.{Searches, found_cells, found_text}
 use Rattle.search.specs.Stacks.{find_in}
 use Rattle.search.specs.Standings.{state_of}
 use Rattle.search.specs.declared.answer.Answer.{Answer}
@@ -20,6 +23,8 @@ use Rattle.search.specs.declared.fault.OpenFault.{OpenFault}
 use Rattle.search.specs.declared.fault.OpenFault.TheVariants as opening
 use Rattle.search.specs.declared.fault.GoFault.{GoFault}
 use Rattle.search.specs.declared.fault.GoFault.TheVariants as going
+use Rattle.search.specs.declared.fault.CellFault.{CellFault}
+use Rattle.search.specs.declared.fault.CellFault.TheVariants as reading
 use Rattle.search.specs.declared.fault.WriteFault.{WriteFault}
 use Rattle.search.specs.declared.fault.WriteFault.TheVariants as writing
 use Rattle.search.specs.declared.fault.TallyFault.{TallyFault}
@@ -88,6 +93,20 @@ pub record Goes (S : Sys) (n : ℕ) (old new : Search) (a : Answer) : Type 0 whe
   pub state : state_in new ≡ (go S n (state_in old)).state
   -- and so they are in the words of its moves
   pub moves : Go S n (state_in old) (reply_of new a) (steps_of a) (state_in new)
+
+-- ---- reading a cell
+-- a cell of a filling, unless the box has no such cell
+abbrev pub cell_in : Frame → List Bool → Cell → Result Bool CellFault
+cell_in f filling cell = option_map_or (λ number. Ok (slice_index_or filling number false)) (number_at f cell) (Err reading.NoCell)
+
+-- a cell of the find is read if the last go answered found
+abbrev pub cell_found : Bool → Frame → List Bool → Cell → Result Bool CellFault
+cell_found false f filling cell = Err reading.NoFind
+cell_found true f filling cell = cell_in f filling cell
+
+abbrev pub cell_answer : Option Record → Cell → Result Bool CellFault
+cell_answer None cell = Err reading.Blank
+cell_answer (Some r) cell = cell_found r.found r.frame (found_cells r) cell
 
 -- ---- writing
 -- the text stands in the page, or there is no room for it

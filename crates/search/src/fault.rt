@@ -1,4 +1,4 @@
-ghost use Rattle.search.specs.Faults.{open_number, go_number, write_number, tally_number};
+ghost use Rattle.search.specs.Faults.{open_number, go_number, read_number, write_number, tally_number};
 ghost use Rattle.search.specs.declared.fault.OpenFault.TheVariants.{Memory};
 ghost use Rattle.search.specs.declared.fault.WriteFault.TheVariants.{Page};
 ghost use Rattle.std.specs.Prelude.{◌≡◌};
@@ -70,6 +70,30 @@ impl GoFault {
         match self {
             GoFault::Blank => 12,
             GoFault::Steps => 13,
+        }
+    }
+}
+
+// Why no cell of a find is read.
+#[derive(Clone, Copy, PartialEq, Eq, Debug)]
+pub enum CellFault {
+    // the search is blank
+    Blank,
+    // the last go did not answer found
+    NoFind,
+    // the box has no such cell
+    NoCell,
+}
+
+impl CellFault {
+    // The number that a user sees.
+    pub fn number(&self) -> u32
+        ensures { result ≡ read_number self.now }
+    {
+        match self {
+            CellFault::Blank => 12,
+            CellFault::NoFind => 14,
+            CellFault::NoCell => 7,
         }
     }
 }

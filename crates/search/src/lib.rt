@@ -5,6 +5,7 @@ mod answer;
 mod fault;
 mod going;
 mod opening;
+mod reading;
 mod record;
 mod search;
 mod standing;
@@ -12,5 +13,5 @@ mod stepping;
 mod writing;
 
 pub use answer::Answer;
-pub use fault::{GoFault, OpenFault, TallyFault, WriteFault};
+pub use fault::{CellFault, GoFault, OpenFault, TallyFault, WriteFault};
 pub use search::Search;

@@ -7,12 +7,13 @@ ghost use Rattle.rle.specs.Texts.{pattern_text};
 ghost use Rattle.systems.specs.Spaces.{spread, system_of};
 ghost use Rattle.histories.specs.Searches.{fresh};
 ghost use Rattle.search.specs.Answers.{steps_of};
-ghost use Rattle.search.specs.Calls.{Goes, IsOpen, OpenRefused, Writes, find_of, found_by, go_refusal, left_in, open_refusal, state_in, tally_answer, text_of, told_by};
+ghost use Rattle.search.specs.Calls.{Goes, IsOpen, OpenRefused, Writes, cell_answer, cell_found, find_of, found_by, go_refusal, left_in, open_refusal, state_in, tally_answer, text_of, told_by};
 ghost use Rattle.search.specs.Moves.{found_after, is_done, tally_after};
 
 use crate::answer::Answer;
-use crate::fault::{GoFault, OpenFault, TallyFault, WriteFault};
+use crate::fault::{CellFault, GoFault, OpenFault, TallyFault, WriteFault};
 use crate::record::Record;
+use frames::Cell;
 use orders::Order;
 use planes::{Plane, Space};
 use rules::Rule;
@@ -80,6 +81,21 @@ impl Search {
             return Err(GoFault::Steps);
         }
         Ok(record.go(steps))
+    }
+
+    // Whether the cell at column x, row y and generation t of the find is on. Granted only if the last
+    // go answered found.
+    #[tactic(auto, using(crate::proofs::Finds::opened_cell))]
+    pub fn cell(&self, x: u32, y: u32, t: u32) -> Result<bool, CellFault>
+        ensures cell { result ≡ cell_answer self.now.record (record { x = x; y = y; t = t }) }
+        ensures find { (s : Surface) (rule : Rule) (cell : ℕ → ℕ) → IsOpen self.now s rule cell →
+            result ≡ cell_found (found_by self.now) s.frame (spread s (find_of self.now)) (record { x = x; y = y; t = t }) }
+    {
+        let record = self.record.as_ref().ok_or(CellFault::Blank)?;
+        if !record.found {
+            return Err(CellFault::NoFind);
+        }
+        record.cell(Cell { x, y, t })
     }
 
     // Writes the text of the find's first generation into the page from place `at`; answers the

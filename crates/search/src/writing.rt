@@ -1,5 +1,4 @@
-ghost use Rattle.std.specs.Prelude.{◌≡◌, ℕ, ◌+◌, ◌<◌, ◌≤◌, false, slice_index_or};
-ghost use Rattle.frames.specs.Frames.{cells};
+ghost use Rattle.std.specs.Prelude.{◌≡◌};
 ghost use Rattle.rules.specs.Forms.{written};
 ghost use Rattle.rle.specs.Back.{ReadsAs};
 ghost use Rattle.search.specs.Calls.{WriteText};
@@ -7,21 +6,9 @@ ghost use Rattle.search.specs.Opening.{found_cells, found_text};
 
 use crate::fault::WriteFault;
 use crate::record::Record;
-use codes::Value;
 use texts::write_pattern;
 
 impl Record {
-    // Whether a cell is on.
-    fn is_on(&self, cell: usize) -> bool
-        requires { cell < cells self.now.frame }
-        ensures { result ≡ slice_index_or (found_cells self.now) cell false }
-    {
-        match self.classes.class_of(cell) {
-            Some(class) => matches!(self.board.value(class), Value::On),
-            None => false,
-        }
-    }
-
     // Writes the text of the first generation into the page from place `at`.
     #[tactic(auto, using(rle::proofs::Written::round_trip))]
     pub(crate) fn write(&self, page: &mut [u8], at: usize) -> Result<usize, WriteFault>
