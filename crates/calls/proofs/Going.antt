@@ -1,15 +1,17 @@
 -- Opening and going: what has come of a search is kept up by each call.
-use Rattle.std.proofs.Common.{rules, ◌≡◌, ℕ, ◌+◌, ◌<◌, ◌≤◌, min, cond, Bool, true, false, List, [], ◌∷◌, ◌++◌, map, length, Some, None, Ok, Err, Option, refl, sym, ap, ◌∙◌, subst, arith, append-nil}
+use Rattle.std.proofs.Common.{◌≡◌, ℕ, ◌+◌, min, cond, Bool, true, false, List, [], ◌∷◌, ◌++◌, Some, None, Ok, refl, sym, ap, ◌∙◌, subst, arith, append-nil}
 use Rattle.std.proofs.lemmas.List.{map-append, length_push}
+use Rattle.std.proofs.lemmas.Nat.{pow_pos}
+use Rattle.classes.specs.Asked.{free_among}
+use Rattle.classes.specs.Needed.{musts_in}
 use Rattle.frames.specs.Frames.{cells}
 use Rattle.rules.specs.declared.rule.Rule.{Rule}
 use Rattle.rolls.specs.Laws.{Orders}
 use Rattle.rolls.specs.Rolls.{Surface}
-use Rattle.classes.specs.Joins.{TiesInside}
 use Rattle.systems.specs.Spaces.{spread, system_of}
 use Rattle.systems.specs.Systems.{In}
 use Rattle.histories.specs.Listed.{After, Listed, told_of}
-use Rattle.histories.specs.Searches.{State, fresh, Reply, tells_find, done, paused, Go, finds, Calls, no_call, called}
+use Rattle.histories.specs.Searches.{State, fresh, Reply, tells_find, done, paused, Go, finds, no_call, called}
 use Rattle.histories.proofs.Listing.{histories_listed}
 use Rattle.search.specs.Answers.{steps_of}
 use Rattle.search.specs.Calls.{Goes, IsOpen, find_of, found_by, reply_of, state_in, told_by}
@@ -17,14 +19,23 @@ use Rattle.search.specs.Moves.{found_after, tally_after}
 use Rattle.search.specs.declared.answer.Answer.{Answer}
 use Rattle.search.specs.declared.answer.Answer.TheVariants.{Found, Done, Paused}
 use Rattle.search.specs.declared.search.Search.{Search}
-use Rattle.calls.specs.Asked.{to_open, to_go}
+use Rattle.calls.specs.Asked.{to_go}
 use Rattle.calls.specs.Histories.{Keeps, Stands}
-use Rattle.calls.specs.Ledgers.{Book, Called, Granted, Ledger, ends, found_book, idle_book, new_book, opened, opens, pauses, tally_of, tells}
-use Rattle.calls.specs.declared.call.Reply.TheVariants.{Opened, Went}
+use Rattle.calls.specs.Ledgers.{Book, Called, Granted, Ledger, ends, found_book, idle_book, new_book, opened, pauses, tells}
+use Rattle.calls.specs.declared.call.Reply.TheVariants.{Went}
+
+none_in : {f : List Bool} → In f [] → ⊥
+none_in m = elim m [ ]
 
 -- before any call nothing is told, in no steps
 pub none_listed : (s : Surface) (rule : Rule) (cell : ℕ → ℕ) → Listed s rule cell 0 []
-none_listed s rule cell = record { rising = tt; members = λ f ∋ (); rest = λ f g ∋ (); few = _ }
+none_listed s rule cell =
+    record {
+      rising = tt;
+      members = λ f m. elim (none_in m) [ ];
+      rest = λ f g m. elim (none_in m) [ ];
+      few = omega (arith, pow_pos (free_among (musts_in s)));
+    }
 
 module _ (s : Surface) (rule : Rule) (cell : ℕ → ℕ) where
   -- a search just opened
@@ -91,18 +102,21 @@ module _ (s : Surface) (rule : Rule) (cell : ℕ → ℕ) where
       where
         by : (a : Answer) → Go (system_of s rule cell) n b.state (reply_of q' a) (steps_of a) (state_in q') → found_by q' ≡ found_after false (Some a) → told_by q' ≡ tally_after (told_by q) (Some a) →
             (l : Ledger) × Called (opened s rule cell b) p (to_go n) (Ok (Went a)) l p × Stands l q'
-        by (Found j) g found tally =
-            (opened s rule cell (found_book b (state_in q') j (spread s (find_of q'))),
-            tells granted (after (tells_find (find_of q')) j g).none_over g,
-            told_one (find_of q') j g refl found tally)
-        by (Done j) g found tally =
-            (opened s rule cell (idle_book b (state_in q') j),
-            ends granted (after done j g).none_over g (λ f member. subst (In f) (sym k.told) ((after done j g).all_told refl f member)),
-            idle done j refl g found tally)
-        by (Paused j) g found tally =
-            (opened s rule cell (idle_book b (state_in q') j),
-            paused_at j ((after paused j g).all_used refl) g,
-            idle paused j refl g found tally)
+        by (Found j) g found tally = (
+          opened s rule cell (found_book b (state_in q') j (spread s (find_of q'))),
+          tells granted (after (tells_find (find_of q')) j g).none_over g,
+          told_one (find_of q') j g refl found tally,
+        )
+        by (Done j) g found tally = (
+          opened s rule cell (idle_book b (state_in q') j),
+          ends granted (after done j g).none_over g (λ f member. subst (In f) (sym k.told) ((after done j g).all_told refl f member)),
+          idle done j refl g found tally,
+        )
+        by (Paused j) g found tally = (
+          opened s rule cell (idle_book b (state_in q') j),
+          paused_at j ((after paused j g).all_used refl) g,
+          idle paused j refl g found tally,
+        )
           where
             paused_at : (j : ℕ) → j ≡ n → Go (system_of s rule cell) n b.state paused j (state_in q') → Called (opened s rule cell b) p (to_go n) (Ok (Went (Paused j))) (opened s rule cell (idle_book b (state_in q') j)) p
             paused_at j e g =

@@ -1,5 +1,5 @@
 -- The calls of a search in the words of what spaces and orders say.
-use Rattle.std.specs.Prelude.{◌≡◌, ℕ, Bool, true, false}
+use Rattle.std.specs.Prelude.{◌≡◌, ℕ, false}
 use Rattle.frames.specs.declared.frame.Cell.{Cell}
 use Rattle.frames.specs.declared.frame.Frame.{Frame}
 use Rattle.planes.specs.Meaning.{Meaning}

@@ -1,5 +1,5 @@
 -- How a search stands to the calls that were made of it.
-use Rattle.std.specs.Prelude.{◌≡◌, ℕ, cond, Bool, List, [], ◌∷◌, Some, None, Option}
+use Rattle.std.specs.Prelude.{◌≡◌, ℕ, cond, Bool, List, Some, None}
 use Rattle.frames.specs.Frames.{cells}
 use Rattle.rules.specs.declared.rule.Rule.{Rule}
 use Rattle.rolls.specs.Laws.{Orders}

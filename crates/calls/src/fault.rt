@@ -31,41 +31,41 @@ impl CallFault {
 
 // Each `From` is written out and not derived, so that a clause knows which case `?` gives.
 impl From<OpenFault> for CallFault {
-    ghost from_gives = { λ open fault. fault ≡ calling.Open open };
+    ghost from_gives = { λ cause fault. fault ≡ calling.Open cause };
 
-    fn from(open: OpenFault) -> CallFault {
-        Self::Open(open)
+    fn from(cause: OpenFault) -> CallFault {
+        Self::Open(cause)
     }
 }
 
 impl From<GoFault> for CallFault {
-    ghost from_gives = { λ go fault. fault ≡ calling.Go go };
+    ghost from_gives = { λ cause fault. fault ≡ calling.Go cause };
 
-    fn from(go: GoFault) -> CallFault {
-        Self::Go(go)
+    fn from(cause: GoFault) -> CallFault {
+        Self::Go(cause)
     }
 }
 
 impl From<CellFault> for CallFault {
-    ghost from_gives = { λ cell fault. fault ≡ calling.Cell cell };
+    ghost from_gives = { λ cause fault. fault ≡ calling.Cell cause };
 
-    fn from(cell: CellFault) -> CallFault {
-        Self::Cell(cell)
+    fn from(cause: CellFault) -> CallFault {
+        Self::Cell(cause)
     }
 }
 
 impl From<WriteFault> for CallFault {
-    ghost from_gives = { λ write fault. fault ≡ calling.Write write };
+    ghost from_gives = { λ cause fault. fault ≡ calling.Write cause };
 
-    fn from(write: WriteFault) -> CallFault {
-        Self::Write(write)
+    fn from(cause: WriteFault) -> CallFault {
+        Self::Write(cause)
     }
 }
 
 impl From<TallyFault> for CallFault {
-    ghost from_gives = { λ tally fault. fault ≡ calling.Tally tally };
+    ghost from_gives = { λ cause fault. fault ≡ calling.Tally cause };
 
-    fn from(tally: TallyFault) -> CallFault {
-        Self::Tally(tally)
+    fn from(cause: TallyFault) -> CallFault {
+        Self::Tally(cause)
     }
 }

@@ -3,8 +3,8 @@
 
 mod call;
 mod fault;
-mod perform;
+mod performing;
 
 pub use call::{Call, Opening, Reply};
 pub use fault::CallFault;
-pub use perform::perform;
+pub use performing::perform;
