@@ -3,6 +3,8 @@ ghost use Rattle.calls.specs.declared.fault.CallFault.TheVariants as calling;
 ghost use Rattle.std.specs.Prelude.{◌≡◌};
 
 use search::{CellFault, GoFault, OpenFault, TallyFault, WriteFault};
+use std::error::Error;
+use std::fmt;
 
 // Why a call is refused: the refusal of the search is carried whole.
 #[derive(Clone, Copy, PartialEq, Eq, Debug)]
@@ -69,3 +71,17 @@ impl From<TallyFault> for CallFault {
         Self::Tally(cause)
     }
 }
+
+// What a program says of it, for want of memory or else for a caller's mistake.
+impl fmt::Display for CallFault {
+    fn fmt<W: fmt::Write>(&self, f: &mut fmt::Formatter<W>) -> fmt::Result {
+        match self {
+            CallFault::Open(fault) => write!(f, "{fault}"),
+            CallFault::Go(_) | CallFault::Cell(_) | CallFault::Write(_) | CallFault::Tally(_) => {
+                write!(f, "the search refused a call")
+            }
+        }
+    }
+}
+
+impl Error for CallFault {}
