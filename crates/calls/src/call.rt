@@ -6,6 +6,7 @@ use search::Answer;
 use std::alloc::Global;
 
 // What a search is opened on, and the memory that it takes then.
+#[derive(Drop)]
 pub struct Opening<'a, S, O> {
     pub heap: Global,
     pub space: &'a S,
@@ -14,6 +15,7 @@ pub struct Opening<'a, S, O> {
 }
 
 // A call of a search. Who opens none need not name a space and an order.
+#[derive(Drop)]
 pub enum Call<'a, S = Plain, O = Rows> {
     Open(Opening<'a, S, O>),
     // by at most so many steps

@@ -1,0 +1,64 @@
+-- What a search and the checker come to, side by side: any list of calls, and any list of texts.
+use Rattle.std.specs.Prelude.{◌≡◌, ℕ, ◌<◌, ◌≤◌, Bool, ◌↔◌, List, ◌∷◌, map, Ok, Err, Result}
+use Rattle.std.specs.Global.{Vec}
+use Rattle.rules.specs.declared.rule.Rule.{Rule}
+use Rattle.rolls.specs.Rolls.{Surface, Roll}
+use Rattle.systems.specs.Systems.{In}
+use Rattle.histories.specs.Listed.{Listed}
+use Rattle.checking.specs.Checked.{checked}
+use Rattle.checking.specs.Laws.{FirstOf}
+use Rattle.checking.specs.declared.fault.CheckFault.{CheckFault}
+use Rattle.checking.specs.declared.fault.CheckFault.TheVariants.{Rows}
+use Rattle.search.specs.declared.answer.Answer.TheVariants.{Done}
+use Rattle.search.specs.declared.fault.OpenFault.TheVariants.{TieRows}
+use Rattle.calls.specs.Asked.{Asked, to_open}
+use Rattle.calls.specs.Ledgers.{Answered, Book, Ledger, Run, opened, tally_of}
+use Rattle.calls.specs.declared.call.Reply.TheVariants.{Opened, Went}
+use Rattle.calls.specs.declared.fault.CallFault.TheVariants.{Open}
+use Rattle.accounting.specs.declared.report.Report.{Report}
+
+-- a verdict, with the cells of the pattern that is accepted
+abbrev pub shown : Result (Vec Bool) CheckFault → Result (List Bool) CheckFault
+shown (Ok first) = Ok first.items
+shown (Err fault) = Err fault
+
+-- a go answered done
+abbrev pub Ended : List Answered → Type 0
+Ended answers = (steps : ℕ) × In (Ok (Went (Done steps))) answers
+
+-- the checker accepts no text at all
+abbrev pub AcceptsNone : Surface → Rule → Type 0
+AcceptsNone s rule = (text : List ℕ) (first : List Bool) → checked s rule text ≡ Ok first → ⊥
+
+-- what the finds told have to do with the roll, and with the texts that the checker accepts
+pub record Agreed (s : Surface) (rule : Rule) (at : ℕ → ℕ) (answers : List Answered) (b : Book) : Type 0 where
+  -- they are in sequence the first of the roll in dictionary order, each once, and all steps are at most 2^(k+1) - 2 with k the number of free classes
+  pub listed : Listed s rule at b.steps b.told
+  -- done was answered only after every member was told
+  pub whole : Ended answers → (f : List Bool) → Roll s rule f → In f b.told
+  -- the first generations of the roll are exactly the patterns that the checker accepts
+  pub exactly : (first : List Bool) → FirstOf s rule first ↔ ((text : List ℕ) × (checked s rule text ≡ Ok first))
+  -- once done was answered, the tally is 0 exactly when it accepts no text
+  pub none : Ended answers → (tally_of b.told ≡ 0) ↔ AcceptsNone s rule
+
+-- over at most 8 rows of ties the search was opened, and what has come of it agrees with the roll and the checker
+pub record Both (s : Surface) (rule : Rule) (at : ℕ → ℕ) (a : Report) (l : Ledger) : Type 0 where
+  pub granted : a.opened ≡ Ok Opened
+  pub book : Book
+  pub ledger : l ≡ opened s rule at book
+  pub agreed : Agreed s rule at a.answers.items book
+
+-- over more, both refuse
+pub record Neither (s : Surface) (rule : Rule) (a : Report) : Type 0 where
+  pub opening : a.opened ≡ Err (Open TieRows)
+  pub checks : (text : List ℕ) → checked s rule text ≡ Err Rows
+
+-- an account of a search that was opened on a surface, a rule and the cells by rank, of calls and of texts
+pub record Accounted (s : Surface) (rule : Rule) (at : ℕ → ℕ) (calls : List Asked) (texts : List (List ℕ)) (a : Report) (from to : List ℕ) : Type 0 where
+  -- each text has the answer of the check's definition
+  pub verdicts : map shown a.verdicts.items ≡ map (checked s rule) texts
+  -- each call has the answer that it has to have, from the opening on, and the page is what it has to be
+  pub ledger : Ledger
+  pub run : Run from (to_open s rule at ∷ calls) (a.opened ∷ a.answers.items) ledger to
+  pub few : s.rows ≤ 8 → Both s rule at a ledger
+  pub many : 8 < s.rows → Neither s rule a

@@ -1,0 +1,9 @@
+// One account of two parties: what a search answers to any list of calls, and what the checker says of any
+// texts, over one space and rule.
+#![tactic(auto)]
+
+mod parties;
+mod report;
+
+pub use parties::account;
+pub use report::{Report, Verdict};
