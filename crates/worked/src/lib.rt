@@ -3,4 +3,4 @@
 
 mod laws;
 
-pub use laws::worked_list_stands;
+pub use laws::{problem_spaces_stand, worked_list_stands};
