@@ -1,0 +1,4 @@
+mod Block
+mod Codes
+mod Only
+mod Worked
