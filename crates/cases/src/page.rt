@@ -1,5 +1,6 @@
 ghost use Rattle.std.specs.Prelude.{◌≡◌, ◌++◌};
 
+use calls::{Call, Opening, perform};
 use listing::{Closed, PAGE_SIZE, Sink, list_page};
 use printing::write_refused;
 use problem::{Problem, read_problem};
@@ -29,10 +30,14 @@ impl Sink for Kept {
 // All that listing a problem prints; none where it is not listed to its end.
 fn listed(heap: Global, problem: &Problem) -> Option<Vec<u8>> {
     let mut search = Search::blank();
-    search
-        .open(heap, &problem.space, &problem.order, &problem.rule)
-        .ok()?;
     let mut page = [0u8; PAGE_SIZE];
+    let open = Call::Open(Opening {
+        heap,
+        space: &problem.space,
+        order: &problem.order,
+        rule: &problem.rule,
+    });
+    perform(&mut search, &open, &mut page).ok()?;
     let mut kept = Kept {
         bytes: Vec::new(heap),
     };

@@ -1,9 +1,17 @@
-use crate::reply::{CallFault, Reply};
+use crate::reply::Said;
+use calls::{Call, Opening, perform};
+use choices::AnyOrder;
+use frames::Cell;
 use numbers::read_decimal;
+use planes::{Fixed, Mirror, Surface};
 use problem::{Problem, read_problem};
 use search::Search;
 use std::alloc::{AllocError, Global};
 use std::str::Lines;
+use words::Words;
+
+// A call of a search that is opened on the space and the order of a problem.
+type ProblemCall<'a> = Call<'a, Fixed<Mirror<Surface>>, AnyOrder>;
 
 // Which of its two searches a script calls.
 #[derive(Clone, Copy)]
@@ -34,6 +42,17 @@ fn number_after(line: &str, name: &str) -> Option<u64> {
     read_decimal(line.strip_prefix(name)?.as_bytes())
 }
 
+// The cell that is to be read.
+fn cell_in(line: &str) -> Option<Cell> {
+    let mut words = Words::after(line.as_bytes(), b"cell")?;
+    let cell = Cell {
+        x: words.number()?,
+        y: words.number()?,
+        t: words.number()?,
+    };
+    words.is_done().then_some(cell)
+}
+
 impl<'a> Caller<'a> {
     fn new(heap: Global, problem: &'a Problem) -> Caller<'a> {
         Caller {
@@ -43,41 +62,44 @@ impl<'a> Caller<'a> {
         }
     }
 
-    fn open(&mut self) -> Result<Reply, CallFault> {
-        let Problem {
-            space,
-            order,
-            rule,
-            ..
-        } = self.problem;
-        self.search.open(self.heap, space, order, rule)?;
-        Ok(Reply::Opened)
+    fn opening(&self) -> ProblemCall<'a> {
+        Call::Open(Opening {
+            heap: self.heap,
+            space: &self.problem.space,
+            order: &self.problem.order,
+            rule: &self.problem.rule,
+        })
+    }
+
+    // The call that a line names.
+    fn call_in(&self, line: &str) -> Option<ProblemCall<'a>> {
+        if let Some(steps) = number_after(line, "go ") {
+            return Some(Call::Go(u32::try_from(steps).unwrap_or(u32::MAX)));
+        }
+        if let Some(at) = number_after(line, "write ") {
+            return Some(Call::Write(usize::try_from(at).unwrap_or(usize::MAX)));
+        }
+        match line {
+            "open" => Some(self.opening()),
+            "tally" => Some(Call::Tally),
+            _ => Some(Call::Cell(cell_in(line)?)),
+        }
     }
 
     // Makes one call.
-    fn call(&mut self, line: &str, page: &mut [u8]) -> Result<Reply, CallFault> {
-        if let Some(steps) = number_after(line, "go ") {
-            let steps = u32::try_from(steps).unwrap_or(u32::MAX);
-            return Ok(Reply::Went(self.search.go(steps)?));
-        }
-        if let Some(at) = number_after(line, "write ") {
-            let at = usize::try_from(at).unwrap_or(usize::MAX);
-            return Ok(Reply::Wrote(self.search.write(page, at)?));
-        }
-        match line {
-            "tally" => Ok(Reply::Counted(self.search.tally()?)),
-            "open" => self.open(),
-            _ => Ok(Reply::NoSuchCall),
-        }
+    fn make(&mut self, call: &ProblemCall<'_>, page: &mut [u8]) -> Result<Said, AllocError> {
+        Said::of(perform(&mut self.search, call, page))
     }
 
-    // Makes one call and says its answer.
+    // Makes the call that a line names and says its answer.
     fn answer(&mut self, line: &str, page: &mut [u8]) -> Result<String, AllocError> {
         let heap = self.heap;
-        match self.call(line, page) {
-            Ok(reply) => format!(in heap; "{reply}"),
-            Err(CallFault::Refused(number)) => format!(in heap; "refused {number}"),
-            Err(CallFault::Memory) => Err(AllocError),
+        match self.call_in(line) {
+            Some(call) => {
+                let said = self.make(&call, page)?;
+                format!(in heap; "{said}")
+            }
+            None => String::from_str(heap, "no such call"),
         }
     }
 }
@@ -94,8 +116,7 @@ fn shown(heap: Global, page: &[u8]) -> Result<String, AllocError> {
     Ok(shown)
 }
 
-// Whether every call gets the answer that is expected, and the page is as expected at the end. A call
-// that reads one cell is passed over: there is none yet.
+// Whether every call gets the answer that is expected, and the page is as expected at the end.
 fn calls_agree(
     mut opened: Caller<'_>,
     calls: Lines<'_>,
@@ -116,7 +137,7 @@ fn calls_agree(
                     return Ok(false);
                 };
                 let caller = called.pick(&mut opened, &mut blank);
-                if !line.starts_with("cell ") && caller.answer(line, page)?.as_str() != wanted {
+                if caller.answer(line, page)?.as_str() != wanted {
                     return Ok(false);
                 }
             }
@@ -143,9 +164,9 @@ pub fn script_agrees(heap: Global, script: &str, answers: &str) -> Result<bool, 
     // no From takes a u64 to a usize, which are alike here
     let mut page = vec![in heap; b'.'; size as usize]?;
     let mut opened = Caller::new(heap, &problem);
-    match opened.open() {
-        Ok(_) => calls_agree(opened, calls, page.as_mut_slice(), answers),
-        Err(CallFault::Refused(_)) => Ok(false),
-        Err(CallFault::Memory) => Err(AllocError),
+    let opening = opened.opening();
+    match opened.make(&opening, page.as_mut_slice())? {
+        Said::Granted(_) => calls_agree(opened, calls, page.as_mut_slice(), answers),
+        Said::Refused(_) => Ok(false),
     }
 }

@@ -2,6 +2,7 @@
 #![tactic(auto)]
 
 use anyhow::bail;
+use calls::{Call, Opening, perform};
 use listing::{Closed, PAGE_SIZE, Sink, list_page};
 use printing::write_refused;
 use problem::{Problem, ProblemFault, read_problem};
@@ -64,8 +65,14 @@ fn refuse(rt: &HostRuntime, fault: &ProblemFault) -> anyhow::Result<()> {
 fn list(rt: &HostRuntime, problem: &Problem) -> anyhow::Result<()> {
     let heap = rt.alloc();
     let mut search = Search::blank();
-    search.open(heap, &problem.space, &problem.order, &problem.rule)?;
     let mut page = [0u8; PAGE_SIZE];
+    let open = Call::Open(Opening {
+        heap,
+        space: &problem.space,
+        order: &problem.order,
+        rule: &problem.rule,
+    });
+    perform(&mut search, &open, &mut page)?;
     let held = Vec::with_capacity(heap, HELD)?;
     let mut printer = Printer { rt, held };
     list_page(&mut search, &mut page, &mut printer)?;

@@ -2,7 +2,7 @@ ghost use Rattle.listing.specs.declared.fault.ListFault.TheVariants as listing;
 ghost use Rattle.std.specs.Prelude.{◌≡◌};
 
 use crate::sink::Closed;
-use search::{GoFault, TallyFault, WriteFault};
+use calls::CallFault;
 use std::error::Error;
 use std::fmt;
 use texts::PageFault;
@@ -10,12 +10,8 @@ use texts::PageFault;
 // Why a page was not listed to its end.
 #[derive(Clone, Copy, PartialEq, Eq, Debug)]
 pub enum ListFault {
-    // the search refused to go
-    Go(GoFault),
-    // the search refused to write a find
-    Write(WriteFault),
-    // the search refused its tally
-    Tally(TallyFault),
+    // the search refused a call
+    Call(CallFault),
     // the last line found no room
     Foot(PageFault),
     // the sink takes no more
@@ -23,27 +19,11 @@ pub enum ListFault {
 }
 
 // Each `From` is written out and not derived by thiserror, so that a clause knows which case `?` gives.
-impl From<GoFault> for ListFault {
-    ghost from_gives = { λ go fault. fault ≡ listing.Go go };
+impl From<CallFault> for ListFault {
+    ghost from_gives = { λ call fault. fault ≡ listing.Call call };
 
-    fn from(go: GoFault) -> ListFault {
-        Self::Go(go)
-    }
-}
-
-impl From<WriteFault> for ListFault {
-    ghost from_gives = { λ write fault. fault ≡ listing.Write write };
-
-    fn from(write: WriteFault) -> ListFault {
-        Self::Write(write)
-    }
-}
-
-impl From<TallyFault> for ListFault {
-    ghost from_gives = { λ tally fault. fault ≡ listing.Tally tally };
-
-    fn from(tally: TallyFault) -> ListFault {
-        Self::Tally(tally)
+    fn from(call: CallFault) -> ListFault {
+        Self::Call(call)
     }
 }
 
@@ -68,9 +48,7 @@ impl fmt::Display for ListFault {
     fn fmt<W: fmt::Write>(&self, f: &mut fmt::Formatter<W>) -> fmt::Result {
         match self {
             ListFault::Closed => write!(f, "the output is closed"),
-            ListFault::Go(_) | ListFault::Write(_) | ListFault::Tally(_) | ListFault::Foot(_) => {
-                write!(f, "the search was refused")
-            }
+            ListFault::Call(_) | ListFault::Foot(_) => write!(f, "the search was refused"),
         }
     }
 }

@@ -1,15 +1,15 @@
-ghost use Rattle.std.specs.Prelude.{◌≡◌, ℕ, ◌<◌, false, [], IfOk, OnOk, is_none};
-ghost use Rattle.frames.specs.Frames.{cells};
+ghost use Rattle.std.specs.Prelude.{◌≡◌, ℕ, ◌<◌, List, Bool, false, Some, [], ◌∷◌, IfOk, OnOk, is_none};
 ghost use Rattle.rules.specs.declared.rule.Rule.{Rule};
-ghost use Rattle.rolls.specs.Laws.{Orders};
 ghost use Rattle.rolls.specs.Rolls.{Surface};
-ghost use Rattle.histories.specs.Searches.{fresh};
 ghost use Rattle.printing.specs.Printed.{found_line};
-ghost use Rattle.search.specs.Calls.{IsOpen, left_in, state_in, text_of, told_by};
-ghost use Rattle.listing.specs.Handing.{Handed, PageHanded, TakenAndRested, WentOn};
+ghost use Rattle.search.specs.Calls.{left_in};
+ghost use Rattle.calls.specs.Histories.{Keeps};
+ghost use Rattle.calls.specs.Ledgers.{Book, new_book, tally_of, text_in};
+ghost use Rattle.listing.specs.Handing.{Handed, PageBegun, PageHanded, WentOn};
 
 use crate::fault::ListFault;
 use crate::sink::{Closed, Sink};
+use calls::{Call, Reply, perform};
 use printing::write_found;
 use search::{Answer, Search};
 
@@ -34,20 +34,30 @@ fn rested<S: Sink>(left: u32, taken: u32, sink: &mut S) -> Result<u32, Closed>
 }
 
 // Hands the find on.
-fn hand_find<S: Sink>(search: &Search, page: &mut [u8], sink: &mut S) -> Result<(), ListFault>
-    ensures { OnOk result (S.Sink.takes sink.old (text_of search.now) sink.new) }
+fn hand_find<S: Sink>(search: &mut Search, page: &mut [u8], sink: &mut S) -> Result<(), ListFault>
+    ensures same { IfOk result (λ _. search.new ≡ search.old) }
+    ensures handed { (s : Surface) (rule : Rule) (cell : ℕ → ℕ) (b : Book) (f : List Bool) → Keeps s rule cell b search.old → b.find ≡ Some f →
+        OnOk result (S.Sink.takes sink.old (text_in s rule f) sink.new) }
 {
-    let end = search.write(page, 0)?;
+    let write: Call = Call::Write(0);
+    let Reply::Wrote(end) = perform(search, &write, page)? else {
+        unreachable!()
+    };
     sink.take(&page[..end])?;
     Ok(())
 }
 
 // Hands the last line on: how many finds there were.
-fn hand_foot<S: Sink>(search: &Search, page: &mut [u8], sink: &mut S) -> Result<(), ListFault>
-    ensures { OnOk result (TakenAndRested S.Sink.takes S.Sink.rests sink.old (found_line (told_by search.now)) sink.new) }
+fn hand_foot<S: Sink>(search: &mut Search, page: &mut [u8], sink: &mut S) -> Result<(), ListFault>
+    ensures { (s : Surface) (rule : Rule) (cell : ℕ → ℕ) (b : Book) → Keeps s rule cell b search.old →
+        OnOk result (Handed S.Sink.takes S.Sink.rests sink.old (found_line (tally_of b.told) ∷ []) sink.new) }
 {
-    let end = write_found(page, 0, search.tally()?)?;
-    sink.take(&page[..end])?;
+    let tally: Call = Call::Tally;
+    let Reply::Counted(finds) = perform(search, &tally, page)? else {
+        unreachable!()
+    };
+    let after = write_found(page, 0, finds)?;
+    sink.take(&page[..after])?;
     sink.rest()?;
     Ok(())
 }
@@ -61,10 +71,13 @@ fn go_on<S: Sink>(
     sink: &mut S,
 ) -> Result<Option<u32>, ListFault>
     ensures fewer { IfOk result (λ next. is_none next ≡ false → left_in search.new < left_in search.old) }
-    ensures went { (s : Surface) (rule : Rule) (cell : ℕ → ℕ) → IsOpen search.old s rule cell →
-        IfOk result (λ next. WentOn S.Sink.takes S.Sink.rests s rule cell search.old search.new sink.old sink.new (is_none next)) }
+    ensures went { (s : Surface) (rule : Rule) (cell : ℕ → ℕ) (from : S) → PageBegun S.Sink.takes S.Sink.rests s rule cell search.old from sink.old →
+        IfOk result (λ next. WentOn S.Sink.takes S.Sink.rests s rule cell search.new from sink.new (is_none next)) }
 {
-    let answer = search.go(left)?;
+    let go: Call = Call::Go(left);
+    let Reply::Went(answer) = perform(search, &go, page)? else {
+        unreachable!()
+    };
     match answer {
         Answer::Found(_) => hand_find(search, page, sink)?,
         Answer::Done(_) => {
@@ -83,7 +96,7 @@ pub fn list_page<S: Sink>(
     page: &mut [u8],
     sink: &mut S,
 ) -> Result<(), ListFault>
-    ensures { (s : Surface) (rule : Rule) (cell rank : ℕ → ℕ) → Orders (cells s.frame) cell rank → IsOpen search.old s rule cell → state_in search.old ≡ fresh → told_by search.old ≡ 0 →
+    ensures { (s : Surface) (rule : Rule) (cell : ℕ → ℕ) → Keeps s rule cell new_book search.old →
         OnOk result (PageHanded S.Sink.takes S.Sink.rests s rule cell sink.old sink.new) }
 {
     let mut left = STRIDE;
