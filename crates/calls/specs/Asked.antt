@@ -1,5 +1,5 @@
 -- The calls of a search in the words of what spaces and orders say.
-use Rattle.std.specs.Prelude.{◌≡◌, ℕ, false}
+use Rattle.std.specs.Prelude.{ℕ}
 use Rattle.frames.specs.declared.frame.Cell.{Cell}
 use Rattle.frames.specs.declared.frame.Frame.{Frame}
 use Rattle.planes.specs.Meaning.{Meaning}
@@ -8,9 +8,6 @@ use Rattle.rules.specs.declared.rule.Rule.{Rule}
 use Rattle.rolls.specs.Rolls.{Surface, surface}
 use Rattle.calls.specs.declared.call.Call.{Call}
 use Rattle.calls.specs.declared.call.Call.TheVariants as calling
-use Rattle.calls.specs.declared.call.Reply.{Reply}
-use Rattle.calls.specs.declared.call.Reply.TheVariants as replying
-use Rattle.search.specs.Moves.{is_done}
 
 -- to open a search on a surface, a rule and the cells by rank; to go by so many steps; to read a cell; to write into the page from a place on; to tell the tally
 pub data Asked : Type 0 where
@@ -27,11 +24,3 @@ asked means count tied ranks (calling.Go steps) = to_go steps
 asked means count tied ranks (calling.Cell cell) = to_read cell
 asked means count tied ranks (calling.Write at) = to_write at
 asked means count tied ranks calling.Tally = to_count
-
--- a go that did not answer done
-abbrev pub goes_on : Reply → Type 0
-goes_on (replying.Went answer) = is_done answer ≡ false
-goes_on replying.Opened = ⊥
-goes_on (replying.Read on) = ⊥
-goes_on (replying.Wrote end) = ⊥
-goes_on (replying.Counted finds) = ⊥

@@ -1,4 +1,5 @@
 pub mod Asked
 pub mod Faults
 pub mod Histories
+pub mod Kinds
 pub mod Ledgers

@@ -1,7 +1,7 @@
-ghost use Rattle.std.specs.Prelude.{◌≡◌, ℕ, ◌<◌, List, [], ◌∷◌, ◌++◌, IfOk};
-ghost use Rattle.search.specs.Calls.{left_in};
-ghost use Rattle.calls.specs.Asked.{Asked, asked, goes_on};
+ghost use Rattle.std.specs.Prelude.{ℕ, List, [], ◌∷◌, ◌++◌};
+ghost use Rattle.calls.specs.Asked.{Asked, asked};
 ghost use Rattle.calls.specs.Histories.{History, Performed};
+ghost use Rattle.calls.specs.Kinds.{Kind};
 ghost use Rattle.calls.specs.Ledgers.{Answered, Ledger};
 
 use crate::call::{Call, Reply};
@@ -17,10 +17,10 @@ pub fn perform<S: Space, O: Order>(
     call: &Call<'_, S, O>,
     page: &mut [u8],
 ) -> Result<Reply, CallFault>
+    ensures kind { Kind search.old page.old (asked S.Plane.means S.Space.count S.Space.tied O.Order.cell_of_rank call.now) result search.new page.new }
     ensures performed { (l : Ledger) → Performed l search.old page.old (asked S.Plane.means S.Space.count S.Space.tied O.Order.cell_of_rank call.now) result search.new page.new }
     ensures history { (from : List ℕ) (calls : List Asked) (answers : List Answered) → History from calls answers search.old page.old →
         History from (calls ++ asked S.Plane.means S.Space.count S.Space.tied O.Order.cell_of_rank call.now ∷ []) (answers ++ result ∷ []) search.new page.new }
-    ensures onward { IfOk result (λ reply. goes_on reply → left_in search.new < left_in search.old) }
 {
     Ok(match call {
         Call::Open(opening) => {
