@@ -8,7 +8,7 @@ use Rattle.calls.specs.Ledgers.{Answered}
 use Rattle.calls.specs.declared.call.Reply.{Reply}
 use Rattle.calls.specs.declared.call.Reply.TheVariants.{Opened, Went, Read, Wrote, Counted}
 
--- a granted call answers in its own kind: an opening and a go leave the page as it was, reading and counting the search too, and writing the search;
+-- a granted call answers in its own kind. To open and to go leave the page as it was, to read and to count search and page, to write the search;
 -- a text that was written ends within the page, and a go that does not answer done leaves fewer to come
 abbrev pub KindOf : Search → List ℕ → Asked → Reply → Search → List ℕ → Type 0
 KindOf q p (to_open s r at) Opened q' p' = p' ≡ p
