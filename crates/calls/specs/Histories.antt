@@ -1,5 +1,5 @@
 -- How a search stands to the calls that were made of it.
-use Rattle.std.specs.Prelude.{◌≡◌, ℕ, cond, Bool, List, Some, None}
+use Rattle.std.specs.Prelude.{◌≡◌, ℕ, cond, Bool, false, List, Some, None}
 use Rattle.frames.specs.Frames.{cells}
 use Rattle.rules.specs.declared.rule.Rule.{Rule}
 use Rattle.rolls.specs.Laws.{Orders}
@@ -10,7 +10,7 @@ use Rattle.histories.specs.Searches.{Calls, fresh}
 use Rattle.search.specs.Calls.{IsOpen, find_of, found_by, state_in, told_by}
 use Rattle.search.specs.declared.search.Search.{Search}
 use Rattle.calls.specs.Asked.{Asked}
-use Rattle.calls.specs.Ledgers.{Answered, Book, Called, Ledger, Run, blank, opened, tally_of}
+use Rattle.calls.specs.Ledgers.{Answered, Book, Called, Ledger, Run, blank, new_book, opened, tally_of}
 
 -- an opened search and what has come of it
 pub record Keeps (s : Surface) (rule : Rule) (cell : ℕ → ℕ) (b : Book) (q : Search) : Type 0 where
@@ -40,3 +40,9 @@ pub record History (from : List ℕ) (calls : List Asked) (answers : List Answer
   pub ledger : Ledger
   pub run : Run from calls answers ledger page
   pub stands : Stands ledger q
+
+-- what a granted `Search::open` promises of a search, by a cell order, is what a search keeps of which nothing is told
+abbrev pub OpeningKeeps : Type 0
+OpeningKeeps =
+    (q : Search) (s : Surface) (rule : Rule) (cell rank : ℕ → ℕ) → IsOpen q s rule cell → state_in q ≡ fresh → (found_by q ≡ false) × (told_by q ≡ 0) → Orders (cells s.frame) cell rank →
+    Keeps s rule cell new_book q

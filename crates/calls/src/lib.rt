@@ -3,8 +3,10 @@
 
 mod call;
 mod fault;
+mod laws;
 mod performing;
 
 pub use call::{Call, Opening, Reply};
 pub use fault::CallFault;
+pub use laws::openings_stand;
 pub use performing::perform;
