@@ -1,6 +1,7 @@
 ghost use Rattle.std.specs.Prelude.{◌≡◌, ◌++◌};
 
-use calls::{Call, Opening, perform};
+use crate::opening::opening_of;
+use calls::{Call, perform};
 use listing::{Closed, PAGE_SIZE, Sink, list_page};
 use printing::write_refused;
 use problem::{Problem, read_problem};
@@ -31,12 +32,7 @@ impl Sink for Kept {
 fn listed(heap: Global, problem: &Problem) -> Option<Vec<u8>> {
     let mut search = Search::blank();
     let mut page = [0u8; PAGE_SIZE];
-    let open = Call::Open(Opening {
-        heap,
-        space: &problem.space,
-        order: &problem.order,
-        rule: &problem.rule,
-    });
+    let open = Call::Open(opening_of(heap, problem));
     perform(&mut search, &open, &mut page).ok()?;
     let mut kept = Kept {
         bytes: Vec::new(heap),

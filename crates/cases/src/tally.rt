@@ -1,4 +1,4 @@
-use std::{fmt, fs};
+use std::fmt;
 
 // How many cases agree, and how many differ.
 #[derive(Clone, Copy, PartialEq, Eq, Debug)]
@@ -7,31 +7,24 @@ pub struct Tally {
     differ: u32,
 }
 
+impl Tally {
+    pub const NONE: Tally = Tally {
+        agree: 0,
+        differ: 0,
+    };
+
+    pub fn count(&mut self, agrees: bool) {
+        let counted = if agrees {
+            &mut self.agree
+        } else {
+            &mut self.differ
+        };
+        *counted = counted.saturating_add(1);
+    }
+}
+
 impl fmt::Display for Tally {
     fn fmt<W: fmt::Write>(&self, f: &mut fmt::Formatter<W>) -> fmt::Result {
         write!(f, "{} agree, {} differ", self.agree, self.differ)
     }
-}
-
-// Tries every case that a list names.
-pub fn tally_of<F: FnMut(&str) -> anyhow::Result<bool>>(
-    rt: &HostRuntime,
-    list: &str,
-    mut agrees: F,
-) -> anyhow::Result<Tally>
-    requires { F.IsAlwaysCallable agrees }
-{
-    let names = fs::read_to_string(rt, list)?;
-    let mut tally = Tally {
-        agree: 0,
-        differ: 0,
-    };
-    for name in names.as_str().lines() {
-        if agrees(name)? {
-            tally.agree = tally.agree.saturating_add(1);
-        } else {
-            tally.differ = tally.differ.saturating_add(1);
-        }
-    }
-    Ok(tally)
 }

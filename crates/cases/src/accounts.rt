@@ -1,0 +1,149 @@
+use crate::answers::{Answered, answers_agree};
+use crate::opening::{ProblemCall, opening_of};
+use crate::script::{Called, Script};
+use accounting::{Verdict, account};
+use calls::{Call, Reply};
+use checking::CheckFault;
+use listing::PAGE_SIZE;
+use numbers::read_decimal;
+use planes::Plane;
+use problem::{Problem, read_problem};
+use search::Answer;
+use std::alloc::{AllocError, Global};
+use std::str;
+use texts::write_pattern;
+
+// No go that is made here takes so many steps.
+const STEPS: u32 = 1_000_000;
+
+// What the calls of a script are answered, made all at once; none where they are not all made of one
+// search.
+fn answers_at_once(
+    heap: Global,
+    script: &Script<'_>,
+    page: &mut [u8],
+) -> anyhow::Result<Option<Vec<Answered>>> {
+    let mut calls = Vec::new(heap);
+    for asked in script.calls(heap)? {
+        match asked.called {
+            Called::Opened => calls.push(asked.call)?,
+            Called::Blank => return Ok(None),
+        }
+    }
+    let opening = opening_of(heap, &script.problem);
+    let report = account(opening, calls.as_slice(), page, &[])?;
+    report.opened?;
+    Ok(Some(report.answers))
+}
+
+// Whether a script of calls gets the answers that are expected, all at once.
+pub fn script_accounted(
+    heap: Global,
+    script: &[u8],
+    expected: &[u8],
+) -> anyhow::Result<Option<bool>> {
+    let script = Script::read(script)?;
+    let mut page = script.page(heap)?;
+    let Some(answers) = answers_at_once(heap, &script, page.as_mut_slice())? else {
+        return Ok(None);
+    };
+    answers_agree(heap, answers.as_slice(), page.as_slice(), expected).map(Some)
+}
+
+// The texts that a problem prints, and how many it says they are; none where it is refused.
+fn printed_in(printed: &str) -> Option<(&str, u64)> {
+    let (texts, finds) = printed.split_once("found ")?;
+    Some((texts, read_decimal(finds.trim_end().as_bytes())?))
+}
+
+// A text of a problem's rule that is wider than the box of any problem here.
+fn too_wide(heap: Global, problem: &Problem) -> Result<String, AllocError> {
+    let rule = problem.rule.text();
+    format!(in heap; "x = 32, y = 1, rule = {}\n!\n", rule.as_str())
+}
+
+// Two goes more than there are finds, and then the tally. The last of the texts is no find's.
+fn calls_for(heap: Global, texts: &[&[u8]]) -> Result<Vec<ProblemCall<'static>>, AllocError> {
+    let mut calls = Vec::new(heap);
+    for _ in texts {
+        calls.push(Call::Go(STEPS))?;
+    }
+    calls.push(Call::Go(STEPS))?;
+    calls.push(Call::Tally)?;
+    Ok(calls)
+}
+
+// Whether every find was told, from then on the search was done, and the tally is theirs.
+fn search_agrees(answers: &[Answered], finds: u64) -> bool {
+    let [told @ .., first, again, tally] = answers else {
+        return false;
+    };
+    let found = |answer: &Answered| matches!(answer, Ok(Reply::Went(Answer::Found(_))));
+    let done = |answer: &Answered| matches!(answer, Ok(Reply::Went(Answer::Done(_))));
+    told.len() as u64 == finds
+        && told.iter().all(found)
+        && done(first)
+        && done(again)
+        && *tally == Ok(Reply::Counted(finds))
+}
+
+// Whether a text was accepted, and what was accepted is a pattern of the whole box that is written so.
+fn accepts(problem: &Problem, verdict: &Verdict, text: &[u8]) -> bool {
+    let Ok(pattern) = verdict else {
+        return false;
+    };
+    let frame = problem.space.frame();
+    let places = u64::from(frame.width()) * u64::from(frame.height());
+    let mut page = [0u8; PAGE_SIZE];
+    let end = write_pattern(&mut page, 0, &frame, &problem.rule, pattern.as_slice());
+    pattern.len() as u64 == places && end.is_ok_and(|end| page.get(..end) == Some(text))
+}
+
+// Whether every find's text was accepted, and the text after them is too wide.
+fn checker_agrees(problem: &Problem, verdicts: &[Verdict], texts: &[&[u8]], finds: u64) -> bool {
+    let [accepted @ .., Err(CheckFault::Size)] = verdicts else {
+        return false;
+    };
+    accepted.len() as u64 == finds
+        && accepted
+            .iter()
+            .zip(texts)
+            .all(|(verdict, text)| accepts(problem, verdict, text))
+}
+
+// Whether the account of a problem tells as many finds as are expected, and accepts the text of each.
+pub fn problem_accounted(
+    heap: Global,
+    problem: &[u8],
+    expected: &[u8],
+) -> anyhow::Result<Option<bool>> {
+    let Some((printed, finds)) = printed_in(str::from_utf8(expected)?) else {
+        return Ok(None);
+    };
+    let Ok(problem) = read_problem(problem) else {
+        return Ok(Some(false));
+    };
+    let other = too_wide(heap, &problem)?;
+    let mut texts: Vec<&[u8]> = printed
+        .split_inclusive("!\n")
+        .map(|text| text.as_bytes())
+        .collect(heap)?;
+    texts.push(other.as_bytes())?;
+    let calls = calls_for(heap, texts.as_slice())?;
+    let report = account(
+        opening_of(heap, &problem),
+        calls.as_slice(),
+        &mut [],
+        texts.as_slice(),
+    )?;
+    Ok(Some(
+        report.opened == Ok(Reply::Opened)
+            && search_agrees(report.answers.as_slice(), finds)
+            && checker_agrees(
+                &problem,
+                report.verdicts.as_slice(),
+                texts.as_slice(),
+                finds,
+            ),
+    ))
+}
