@@ -3,7 +3,9 @@
 
 mod fault;
 mod frame;
+mod laws;
 mod making;
 
 pub use fault::FrameFault;
 pub use frame::{Cell, Frame};
+pub use laws::frames_stand;
