@@ -55,7 +55,7 @@ module _ (pins : List Pin) (cell : ℕ) (on : Bool) where
       ∙ ap (option_or (find (λ p. p.cell == c) pins)) (cond-false (cell == c) (Some (record { cell = cell; on = on })) None (ne_eqb cell c (λ e. h (sym e))))
       ∙ or_none _)
 
-  asks_too : pinned pins cell ≡ Free → AsksToo pins (pins ++ new) cell on
+  pub asks_too : pinned pins cell ≡ Free → AsksToo pins (pins ++ new) cell on
   asks_too e = record { asked = asked e; others = others; one_more = length-append pins new }
 
 pub fixes_right : FixesStand

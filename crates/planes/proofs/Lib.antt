@@ -1,2 +1,5 @@
 pub mod Fixing
+pub mod Imaging
+pub mod Layering
+pub mod Remainders
 pub mod Worked

@@ -36,6 +36,16 @@ mirrored number =
     mirror_tie three_by_two number 0 ∷ mirror_tie three_by_two number 1 ∷ mirror_tie three_by_two number 2
     ∷ mirror_tie three_by_two number 3 ∷ mirror_tie three_by_two number 4 ∷ mirror_tie three_by_two number 5 ∷ []
 
+-- the same box in two generations: the second one has the cells 6 7 8 above 9 10 11
+abbrev pub three_by_two_twice : Frame
+three_by_two_twice = record three_by_two { period = 2; lasting = lit≤ tt; short = lit≤ tt; small = lit≤ tt }
+
+-- what a mirror of the kind of a number asks of the cells of its second generation
+abbrev pub mirrored_later : ℕ → List Tie
+mirrored_later number =
+    mirror_tie three_by_two_twice number 6 ∷ mirror_tie three_by_two_twice number 7 ∷ mirror_tie three_by_two_twice number 8
+    ∷ mirror_tie three_by_two_twice number 9 ∷ mirror_tie three_by_two_twice number 10 ∷ mirror_tie three_by_two_twice number 11 ∷ []
+
 -- cell 1 has to be on
 abbrev pub one_pin : List Pin
 one_pin = record { cell = 1; on = true } ∷ []
@@ -55,6 +65,9 @@ pub record PlanesWorked : Type 0 where
   pub falling : mirrored 4 ≡ Same 0 ∷ Same 3 ∷ Off ∷ Same 1 ∷ Same 4 ∷ Off ∷ []
   pub rising : mirrored 5 ≡ Off ∷ Same 5 ∷ Same 2 ∷ Off ∷ Same 4 ∷ Same 1 ∷ []
   pub quarter_turn : mirrored 6 ≡ Same 2 ∷ Same 5 ∷ Off ∷ Same 1 ∷ Same 4 ∷ Off ∷ []
+  -- an image lies in the generation of its cell
+  pub left_right_later : mirrored_later 1 ≡ Same 8 ∷ Same 7 ∷ Same 6 ∷ Same 11 ∷ Same 10 ∷ Same 9 ∷ []
+  pub quarter_turn_later : mirrored_later 6 ≡ Same 8 ∷ Same 11 ∷ Off ∷ Same 7 ∷ Same 10 ∷ Off ∷ []
   -- any other kind asks nothing
   pub untied : mirrored 0 ≡ Free ∷ Free ∷ Free ∷ Free ∷ Free ∷ Free ∷ []
   pub untied_too : mirrored 7 ≡ mirrored 0

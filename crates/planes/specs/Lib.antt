@@ -2,8 +2,11 @@ pub mod Edges
 pub mod Examples
 pub mod Faults
 pub mod Fixes
+pub mod Images
+pub mod Layering
 pub mod Layers
 pub mod Looks
 pub mod Meaning
 pub mod Pins
+pub mod Remainders
 pub mod Ties

@@ -1,4 +1,5 @@
 ghost use Rattle.std.specs.Prelude.{◌≡◌, ◌≤◌, [], length, OnOk, OnErr};
+ghost use Rattle.planes.specs.Layering.{FixAsks};
 ghost use Rattle.planes.specs.Pins.{holding, fixed_cell};
 
 use crate::fault::FixFault;
@@ -29,6 +30,7 @@ impl<S: Space> Layer<S, Pins> {
     // Fixes one cell more.
     pub fn fix(&mut self, x: u32, y: u32, t: u32, on: bool) -> Result<(), FixFault>
         ensures pins { holding self.new.own.held.items result ≡ fixed_cell (S.Plane.means self.old.below).frame self.old.own.held.items x y t on }
+        ensures asks { OnOk result (FixAsks (S.Plane.means self.old.below).frame (S.Space.count self.old.below) x y t on (⟦<Fixed<S> as Space>⟧.tied self.old) (⟦<Fixed<S> as Space>⟧.tied self.new)) }
         ensures below { self.new.below ≡ self.old.below }
         ensures refused { OnErr result (self.new ≡ self.old) }
         ensures few { OnOk result (length self.new.own.held.items ≤ 64) }

@@ -21,7 +21,9 @@ mod tie;
 pub use axis::{Bounded, Edge, Round};
 pub use fault::FixFault;
 pub use fixed::Fixed;
-pub use laws::{fixes_stand, mirrors_stand, planes_stand, worked_planes_stand};
+pub use laws::{
+    fixes_stand, layers_stand, mirrors_stand, planes_stand, remainders_stand, worked_planes_stand,
+};
 pub use layer::Layer;
 pub use mirror::{Mirror, MirrorKind};
 pub use neighbours::{NEIGHBOURS, Offset};
