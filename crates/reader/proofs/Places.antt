@@ -1,17 +1,13 @@
 -- Lines and columns go on from byte to byte, and never pass the number of bytes.
-use Rattle.std.proofs.Common.{◌≡◌, ℕ, suc, ◌+◌, ◌-◌, ◌<◌, ◌≤◌, eqb, List, [], ◌∷◌, ◌++◌, length, get_or, take, drop, sym, refl, ap, ◌∙◌, ⊎_elim, add-zero, arith, length-take, length-drop}
+use Rattle.std.proofs.Common.{◌≡◌, ℕ, suc, ◌+◌, ◌-◌, ◌<◌, ◌≤◌, eqb, List, [], ◌∷◌, ◌++◌, length, get_or, take, drop, sym, ap, ◌∙◌, ⊎_elim, add-zero, arith, length-take, length-drop}
 use Rattle.std.proofs.lemmas.List.{take_more, take-take, drop-take, take-append-drop, length-take-le}
 use Rattle.lines.specs.Lines.{line_length, first_line}
 use Rattle.lines.proofs.Ends.{line_within}
 use Rattle.std.proofs.lemmas.Bool.{cases_Bool, cond-true, cond-false, eq-eqb, ne_eqb}
 use Rattle.rle.specs.Spots.{Spot, corner, next_spot, spot_past, spot_at, spot_before}
+use Rattle.rle.proofs.Places.{spot_append}
 use Rattle.reader.specs.declared.reader.Reader.{Reader}
 use Rattle.reader.specs.Left.{left}
-
-pub spot_append : (s : Spot) (xs ys : List ℕ) → spot_past s (xs ++ ys) ≡ spot_past (spot_past s xs) ys
-unfolding spot_past
-spot_append s [] ys = refl
-spot_append s (x ∷ xs) ys = spot_append (next_spot s x) xs ys
 
 -- the spot after one byte more
 pub spot_more : (t : List ℕ) (i : ℕ) → i < length t → spot_at t (i + 1) ≡ next_spot (spot_at t i) (get_or t i 0)

@@ -1,22 +1,25 @@
 -- What calls one after another answer is what the definition of reading finishes with, or stops at.
-use Rattle.std.proofs.Common.{◌≡◌, ℕ, ◌+◌, true, false, leb, List, [], ◌∷◌, length, sym, refl, ap, ◌∙◌, subst, inl, inr, ⊎_elim, arith}
+use Rattle.std.proofs.Common.{◌≡◌, ℕ, ◌+◌, ◌-◌, true, false, leb, List, [], ◌∷◌, length, sym, refl, ap, ◌∙◌, subst, inl, inr, ⊎_elim, arith}
 use Rattle.std.proofs.lemmas.Bool.{cases_Bool, cond-true, cond-false, leb-true, le-leb}
 use Rattle.std.proofs.lemmas.Bool.Decides.{nat_tests}
 use Rattle.rle.specs.declared.fault.ReadCause.{ReadCause}
-use Rattle.rle.specs.declared.fault.ReadCause.TheVariants.{TooLong, Byte}
+use Rattle.rle.specs.declared.fault.ReadCause.TheVariants.{TooLong, Size, Outside}
 use Rattle.rle.specs.declared.fault.ReadFault.{ReadFault}
 use Rattle.rle.specs.declared.phase.Phase.{Phase}
 use Rattle.rle.specs.declared.phase.Phase.TheVariants.{Opening, Failed}
 use Rattle.rle.specs.Items.{Part, ending, Taken, item_start, read_item, Finishes, ends, goes, Stops, here, later}
 use Rattle.rle.specs.Scans.{Scan, good, bad}
-use Rattle.rle.specs.Spots.{spot_past, spot_before}
-use Rattle.rle.proofs.Faulting.{faults_first}
+use Rattle.rle.specs.Laws.{AtFault, Placed}
+use Rattle.rle.specs.Spots.{corner, spot_past, spot_at, spot_before}
+use Rattle.rle.proofs.Places.{fault_placed}
 use Rattle.rle.proofs.Patterns.{shows_one, took_rest}
 use Rattle.rle.proofs.Reading.{reads_every, took_part, took_phase}
+use Rattle.rle.proofs.Stopping.{stops_at_fault}
+use Rattle.rle.proofs.Stops.{stops_at_large, stops_outside, stops_once}
 use Rattle.reader.specs.declared.reader.Reader.{Reader}
 use Rattle.reader.specs.Calls.{Stand, readable, fault_at, answer_of, stand_after, Opened}
 use Rattle.reader.specs.Left.{left}
-use Rattle.reader.specs.Readings.{Answer, Calls, none, call, Whole, Tells, Meets, ReadsAll, ReadsNoOther, FaultsAtFirst, RefusesLong, OpensAlike}
+use Rattle.reader.specs.Readings.{Answer, Calls, none, call, Whole, Tells, Meets, ReadsAll, ReadsNoOther, spot_of, FaultsStand, TellsFault, RefusesLong, OpensAlike}
 use Rattle.reader.specs.Shown.{told_part}
 use Rattle.reader.proofs.Again.{part_over}
 
@@ -162,16 +165,56 @@ reads_no_other text first last answers o calls w =
     (λ e. absurd (never_ends all.1 TooLong (fails text first o e).1))
     (cases_Bool (leb (length text) 65536))
 
-pub faults_at_first : FaultsAtFirst
-faults_at_first text first last answers fault o calls m byte =
+-- where a reader of a text that is not too long meets a fault
+short_stop : (text : List ℕ) (first : Reader) (fault : ReadFault) → Starts text first → StopsAt first.text.now first.phase (left first) fault → StopsAt text Opening text fault
+short_stop text first fault s all = (
+  all.0,
+  subst (λ z. Stops z text fault.cause all.0) s.1 (subst (λ z. Stops first.phase z fault.cause all.0) s.2 all.1),
+  all.2 ∙ ap (λ z. fault_at (spot_before z all.0) fault.cause) s.0,
+)
+
+-- the first byte of a text stands in the corner
+first_spot : (text : List ℕ) → spot_before text text ≡ corner
+unfolding spot_past
+first_spot text = let none : length text - length text ≡ 0 = omega arith in ap (spot_at text) none
+
+no_spot : (at : List ℕ) → spot_before [] at ≡ corner
+unfolding spot_past
+no_spot at = let none : 0 - length at ≡ 0 = omega arith in ap (spot_at []) none
+
+abbrev Faulty : List ℕ → ReadFault → Type 0
+Faulty text fault = (at : List ℕ) × AtFault text fault.cause at × Placed text at (spot_of fault) × (fault ≡ fault_at (spot_before text at) fault.cause)
+
+placed_fault : (text at : List ℕ) (fault : ReadFault) → AtFault text fault.cause at → fault ≡ fault_at (spot_before text at) fault.cause → Faulty text fault
+placed_fault text at fault h e = (at, h, subst (Placed text at) (sym (ap spot_of e)) (fault_placed text fault.cause at h), e)
+
+pub faults_stand : FaultsStand
+faults_stand text first last answers fault o calls m =
     let all = stopped calls fault m in
     ⊎_elim
     (λ e.
-    let s = starts text first o e in
-    let f : Stops Opening text Byte all.0 = subst (λ z. Stops Opening text z all.0) byte (subst (λ z. Stops z text fault.cause all.0) s.1 (subst (λ z. Stops first.phase z fault.cause all.0) s.2 all.1)) in
-    (all.0, faults_first text all.0 f, all.2 ∙ ap (λ z. fault_at (spot_before z all.0) fault.cause) s.0 ∙ ap (fault_at (spot_before text all.0)) byte))
-    (λ e. let z : Byte ≡ TooLong = sym byte ∙ stays_fault all.1 TooLong (fails text first o e).1 in cc)
+    let stop = short_stop text first fault (starts text first o e) all in
+    placed_fault text stop.0 fault (stops_at_fault text fault.cause stop.0 stop.1) stop.2)
+    (λ e.
+    let s = fails text first o e in
+    let long : fault.cause ≡ TooLong = stays_fault all.1 TooLong s.1 in
+    let whole : AtFault text TooLong text = (grind (arith, nat_tests), refl) in
+    placed_fault text text fault (subst (λ k. AtFault text k text) (sym long) whole)
+    (all.2 ∙ ap (λ z. fault_at z fault.cause) (ap (λ z. spot_before z all.0) s.0 ∙ no_spot all.0 ∙ sym (first_spot text))))
     (cases_Bool (leb (length text) 65536))
+
+-- a text stops nowhere else
+tells_fault : (cause : ReadCause) → ((text at : List ℕ) → AtFault text cause at → Stops Opening text cause at) → TellsFault cause
+tells_fault cause stops text at first last answers fault short h o calls m =
+    let stop = short_stop text first fault (starts text first o (le-leb (length text) 65536 short)) (stopped calls fault m) in
+    let same = stops_once text fault.cause cause stop.0 at stop.1 (stops text at h) in
+    stop.2 ∙ ap (λ z. fault_at (spot_before text z) fault.cause) same.1 ∙ ap (fault_at (spot_before text at)) same.0
+
+pub tells_large : TellsFault Size
+tells_large = tells_fault Size stops_at_large
+
+pub tells_outside : TellsFault Outside
+tells_outside = tells_fault Outside stops_outside
 
 pub refuses_long : RefusesLong
 unfolding read_item spot_past

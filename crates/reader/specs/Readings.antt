@@ -1,12 +1,13 @@
 -- What a reader of a text answers from the first byte on, call after call.
 use Rattle.std.specs.Prelude.{◌≡◌, ℕ, ◌<◌, ◌≤◌, Bool, ◌⊎◌, List, [], ◌∷◌, length, Ok, Err, Option, Result, ◌≢◌}
-use Rattle.rle.specs.declared.fault.ReadCause.TheVariants.{TooLong, Byte}
+use Rattle.rle.specs.declared.fault.ReadCause.{ReadCause}
+use Rattle.rle.specs.declared.fault.ReadCause.TheVariants.{TooLong, Size, Outside}
 use Rattle.rle.specs.declared.fault.ReadFault.{ReadFault}
 use Rattle.rle.specs.declared.mark.Run.{Run}
 use Rattle.rle.specs.Items.{Part}
-use Rattle.rle.specs.Laws.{Given, FirstFault}
+use Rattle.rle.specs.Laws.{Given, AtFault, Placed}
 use Rattle.rle.specs.Patterns.{Shows}
-use Rattle.rle.specs.Spots.{corner, spot_before}
+use Rattle.rle.specs.Spots.{Spot, corner, spot_before}
 use Rattle.reader.specs.declared.item.Located.{Located}
 use Rattle.reader.specs.declared.reader.Reader.{Reader}
 use Rattle.reader.specs.Calls.{LocatedShown, shown_answer, fault_at, Begun, Opened, Answered}
@@ -56,11 +57,21 @@ ReadsNoOther =
     × ((remarks : List (List ℕ)) × (w : ℕ) × (h : ℕ) × (rule : Option (List ℕ)) × (runs : List Run) × (pattern : ℕ → ℕ → Bool) × (items : List Part)
     × Shows remarks w h rule runs pattern text × Given remarks w h rule runs items × Tells text answers items)
 
--- a byte that is answered as out of place is the first that no text of the grammar has there, and stands where it is said to stand
-abbrev pub FaultsAtFirst : Type 0
-FaultsAtFirst =
-    (text : List ℕ) (first last : Reader) (answers : List Answer) (fault : ReadFault) → Opened text first → Calls first answers last → Meets fault answers → fault.cause ≡ Byte →
-    (at : List ℕ) × FirstFault text at × (fault ≡ fault_at (spot_before text at) Byte)
+-- the line and column of a fault
+abbrev pub spot_of : ReadFault → Spot
+spot_of fault = record { line = fault.line; column = fault.column }
+
+-- a text is at fault as it is answered to be: for that cause, from some bytes on, and at the line and column where these start
+abbrev pub FaultsStand : Type 0
+FaultsStand =
+    (text : List ℕ) (first last : Reader) (answers : List Answer) (fault : ReadFault) → Opened text first → Calls first answers last → Meets fault answers →
+    (at : List ℕ) × AtFault text fault.cause at × Placed text at (spot_of fault) × (fault ≡ fault_at (spot_before text at) fault.cause)
+
+-- where a text is at fault for a cause in this way, that is the fault that is answered, whatever else is wrong with it
+abbrev pub TellsFault : ReadCause → Type 0
+TellsFault cause =
+    (text at : List ℕ) (first last : Reader) (answers : List Answer) (fault : ReadFault) → length text ≤ 65536 → AtFault text cause at → Opened text first → Calls first answers last → Meets fault answers →
+    fault ≡ fault_at (spot_before text at) cause
 
 -- a text that is too long is refused by the first call, at its first byte
 abbrev pub RefusesLong : Type 0
@@ -74,6 +85,8 @@ OpensAlike = (text : List ℕ) (first : Reader) → Begun text (Ok first) → Op
 pub record CallLaws : Type 0 where
   pub every : ReadsAll
   pub only : ReadsNoOther
-  pub first : FaultsAtFirst
+  pub faults : FaultsStand
+  pub large : TellsFault Size
+  pub outside : TellsFault Outside
   pub long : RefusesLong
   pub alike : OpensAlike

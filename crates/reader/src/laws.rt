@@ -7,8 +7,9 @@ pub fn answers_repeat()
 {}
 
 // A new reader's calls, one after another: they come to the end exactly when the text is of at most 65,536 bytes
-// and shows a pattern, and then answer its parts; a byte that they answer as out of place is the first such; and a
-// longer text is refused by the first of them.
+// and shows a pattern, and then answer its parts. A fault that they answer is the text's: for that cause, and at the
+// line and column where it stands. A size over 32 and a run outside are answered whatever comes after them, and a
+// text that is too long is refused by the first call.
 pub fn calls_stand()
     ensures { CallLaws }
 {}

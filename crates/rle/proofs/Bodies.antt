@@ -1,20 +1,22 @@
 -- Runs and the end: what reading an item of the body shows, and that the forms of bodies are read.
 use Rattle.std.proofs.Common.{◌≡◌, ℕ, ◌<◌, Bool, true, false, eqb, List, [], ◌∷◌, ◌++◌, length, Some, None, decimal, Option, sym, refl, ap, ◌∙◌, subst, inl, inr, ⊎_elim, arith}
 use Rattle.std.proofs.lemmas.Fmt.{decimal_nonempty}
-use Rattle.std.proofs.lemmas.List.{append-nil}
+use Rattle.std.proofs.lemmas.List.{append_assoc, append-nil}
 use Rattle.std.proofs.lemmas.Bool.{cases_Bool, cond-true, cond-false, eqb-true}
 use Rattle.std.proofs.lemmas.Bool.Decides.{nat_tests}
 use Rattle.rle.specs.declared.fault.ReadCause.{ReadCause}
 use Rattle.rle.specs.declared.fault.ReadCause.TheVariants.{TooLong, Byte, Size, Outside, Ended}
 use Rattle.rle.specs.declared.mark.Mark.{Mark}
 use Rattle.rle.specs.declared.mark.Mark.TheVariants.{Off, On, NextRow}
+use Rattle.rle.specs.declared.mark.Run.{Run}
 use Rattle.rle.specs.declared.phase.Cursor.{Cursor}
 use Rattle.rle.specs.declared.phase.Phase.TheVariants.{Body}
-use Rattle.rle.specs.Forms.{Each, Numeral, CountForm}
+use Rattle.rle.specs.Forms.{Each, Numeral, CountForm, BodyForm}
 use Rattle.rle.specs.Items.{Taken, run, ending, mark_of, laid, laid_run, marked_by, marked, counted, body_item}
 use Rattle.rle.specs.Runs.{letter_of, column_after, row_after, fitting}
 use Rattle.rle.specs.Scans.{Scan, good, bad, and_then, space, digit, numeral}
 use Rattle.rle.proofs.Numerals.{see_numeral, numeral_reads, spelt}
+use Rattle.rle.proofs.Sizes.{NoSize, if_no_size, numeral_no_size}
 use Rattle.rle.proofs.Seen.{Seen, Same, seen_as, begins_with}
 
 -- where the next run is laid, if this one fits
@@ -35,7 +37,7 @@ count_none : (b : ℕ) (t : List ℕ) → digit b ≡ false → counted (b ∷ t
 count_none b t e = cond-false (digit b) _ _ e
 
 see_counted : (t : List ℕ) → Seen Same CountForm counted t (counted t)
-see_counted [] = tt
+see_counted [] = (refl, (1, [], inl (refl, refl)))
 see_counted (b ∷ t) =
     let P : Scan ℕ → Type 0 = Seen Same CountForm counted (b ∷ t) in
     ⊎_elim
@@ -44,6 +46,11 @@ see_counted (b ∷ t) =
     (seen_as Same Numeral CountForm numeral counted (b ∷ t) (λ n u h. inr h) (λ u c r v g. let s = begins_with b t u c r v g in ap counted s.1 ∙ count_digit b s.0 e ∙ ap numeral (sym s.1)) (numeral (b ∷ t)) (see_numeral (b ∷ t))))
     (λ e. subst P (sym (count_none b t e)) ([], inl (refl, refl), refl, λ c r v f. let same : b ≡ c = cc in (1, count_none c v (subst (λ x. digit x ≡ false) same e), refl)))
     (cases_Bool (digit b))
+
+-- a count is at no fault for a size
+counted_no_size : (t : List ℕ) → NoSize (counted t)
+counted_no_size [] = tt
+counted_no_size (b ∷ t) = if_no_size (digit b) (numeral (b ∷ t)) (good 1 (b ∷ t)) (numeral_no_size (b ∷ t)) tt
 
 -- letters
 mark_letter : (m : Mark) → mark_of (letter_of m) ≡ Some m
@@ -73,9 +80,9 @@ letter_of_mark b NextRow e = grind (arith, nat_tests)
 
 -- the mark and the box decide what a counted run comes to
 pub data MarkView (c : Cursor) (start : List ℕ) (n : ℕ) (t : List ℕ) : Scan Taken → Type 0 where
-  short : MarkView c start n t (bad Ended [])
+  short : t ≡ [] → MarkView c start n t (bad Ended [])
   other : (b : ℕ) (r : List ℕ) → t ≡ b ∷ r → mark_of b ≡ None → MarkView c start n t (bad Byte (b ∷ r))
-  leaves : (m : Mark) → MarkView c start n t (bad Outside start)
+  leaves : (m : Mark) (r : List ℕ) → t ≡ letter_of m ∷ r → fits c n m ≡ false → MarkView c start n t (bad Outside start)
   lies : (m : Mark) (r : List ℕ) → t ≡ letter_of m ∷ r → fits c n m ≡ true → MarkView c start n t (good (ran c n m) r)
 
 laid_view : (c : Cursor) (start : List ℕ) (n : ℕ) (t r : List ℕ) (m : Mark) → t ≡ letter_of m ∷ r → MarkView c start n t (laid_run start n m r (laid c n m))
@@ -83,7 +90,7 @@ laid_view c start n t r m e =
     let P : Option Cursor → Type 0 = λ x. MarkView c start n t (laid_run start n m r x) in
     ⊎_elim
     (λ f. subst P (sym (cond-true (fits c n m) (Some (onward c n m)) None f)) (lies m r e f))
-    (λ f. subst P (sym (cond-false (fits c n m) (Some (onward c n m)) None f)) (leaves m))
+    (λ f. subst P (sym (cond-false (fits c n m) (Some (onward c n m)) None f)) (leaves m r e f))
     (cases_Bool (fits c n m))
 
 mark_view_by : (c : Cursor) (start : List ℕ) (n b : ℕ) (r : List ℕ) (o : Option Mark) → mark_of b ≡ o → MarkView c start n (b ∷ r) (marked_by c start n (b ∷ r) o r)
@@ -91,7 +98,7 @@ mark_view_by c start n b r None e = other b r refl e
 mark_view_by c start n b r (Some m) e = laid_view c start n (b ∷ r) r m (ap (λ x. x ∷ r) (letter_of_mark b m e))
 
 mark_view : (c : Cursor) (start : List ℕ) (n : ℕ) (t : List ℕ) → MarkView c start n t (marked c start n t)
-mark_view c start n [] = short
+mark_view c start n [] = short refl
 mark_view c start n (b ∷ r) = mark_view_by c start n b r (mark_of b) refl
 
 -- a run of a form is read where it fits, and else lies outside
@@ -154,12 +161,25 @@ body_leaves c n u m v form f =
     let r = run_reads n u m v form in
     starts_run c t r.0 ∙ ap (λ x. and_then x (marked c t)) r.1 ∙ marked_leaves c t n m v f
 
+-- why an item of the body is at fault otherwise than for a byte out of place: a run leaves the box, or the text ends too soon
+abbrev pub RunFault : Cursor → List ℕ → ReadCause → List ℕ → Type 0
+RunFault c t TooLong at = ⊥
+RunFault c t Byte at = ⊥
+RunFault c t Size at = ⊥
+RunFault c t Outside at = (at ≡ t) × (n : ℕ) × (m : Mark) × (u : List ℕ) × (rest : List ℕ) × CountForm n u × (t ≡ u ++ (letter_of m ∷ rest)) × (fits c n m ≡ false)
+RunFault c t Ended at = (at ≡ []) × (rest : List ℕ) × (runs : List Run) × BodyForm runs (t ++ rest)
+
 -- what an item of the body comes to: the end, a run that fits, a byte out of place, or another fault
 pub data BodyView (c : Cursor) (t : List ℕ) : Scan Taken → Type 0 where
   over : (v : List ℕ) → t ≡ 33 ∷ v → BodyView c t (good (record { part = ending; phase = Body c }) t)
   ran_on : (n : ℕ) (m : Mark) (u rest : List ℕ) → CountForm n u → t ≡ u ++ (letter_of m ∷ rest) → fits c n m ≡ true → BodyView c t (good (ran c n m) rest)
   misplaced : (u : List ℕ) (b : ℕ) (r : List ℕ) → t ≡ u ++ (b ∷ r) → (n : ℕ) (v : List ℕ) → CountForm n (u ++ v) → ((w : List ℕ) → body_item c (u ++ (b ∷ w)) ≡ bad Byte (b ∷ w)) → BodyView c t (bad Byte (b ∷ r))
-  faulty : (cause : ReadCause) (rest : List ℕ) → (cause ≡ Byte → ⊥) → BodyView c t (bad cause rest)
+  faulty : (cause : ReadCause) (rest : List ℕ) → RunFault c t cause rest → BodyView c t (bad cause rest)
+
+-- a count begins a body
+count_begins : (t : List ℕ) (n : ℕ) (v : List ℕ) → CountForm n (t ++ v) → (rest : List ℕ) × (runs : List Run) × BodyForm runs (t ++ rest)
+count_begins t n v h =
+    (v ++ (98 ∷ (33 ∷ [])), record { count = n; mark = Off } ∷ [], ([], t ++ v, 33 ∷ [], tt, h, ([], [], tt, refl), sym (append_assoc t v (98 ∷ (33 ∷ [])))))
 
 -- the first byte is not the end, so the item is a run, whatever comes later
 still_run : (c : Cursor) (b : ℕ) (t u : List ℕ) (d : ℕ) (r w : List ℕ) → eqb b 33 ≡ false → b ∷ t ≡ u ++ (d ∷ r) → body_item c (u ++ (d ∷ w)) ≡ and_then (counted (u ++ (d ∷ w))) (marked c (u ++ (d ∷ w)))
@@ -168,7 +188,10 @@ still_run c b t u d r w e g =
     ap (body_item c) s.1 ∙ body_run c b s.0 e ∙ ap (λ x. and_then (counted x) (marked c x)) (sym s.1)
 
 by_mark : (c : Cursor) (b : ℕ) (t : List ℕ) (n : ℕ) (rest : List ℕ) → eqb b 33 ≡ false → Seen Same CountForm counted (b ∷ t) (good n rest) → (s : Scan Taken) → MarkView c (b ∷ t) n rest s → BodyView c (b ∷ t) s
-by_mark c b t n rest e h s short = faulty Ended [] (λ z. cc)
+by_mark c b t n rest e h s (short f) =
+    let whole : b ∷ t ≡ h.0 = h.2 ∙ ap (λ x. h.0 ++ x) f ∙ append-nil h.0 in
+    let more = count_begins (b ∷ t) n [] (subst (CountForm n) (sym whole ∙ sym (append-nil (b ∷ t))) h.1) in
+    faulty Ended [] (refl, more.0, more.1, more.2)
 by_mark c b t n rest e h s (other d r f none) =
     let whole : b ∷ t ≡ h.0 ++ (d ∷ r) = h.2 ∙ ap (λ x. h.0 ++ x) f in
     misplaced h.0 d r whole n [] (subst (CountForm n) (sym (append-nil h.0)) h.1)
@@ -177,27 +200,27 @@ by_mark c b t n rest e h s (other d r f none) =
     still_run c b t h.0 d r w e whole
     ∙ ap (λ x. and_then x (marked c (h.0 ++ (d ∷ w)))) one.1
     ∙ ap (λ o. marked_by c (h.0 ++ (d ∷ w)) one.0 (d ∷ w) o w) none)
-by_mark c b t n rest e h s (leaves m) = faulty Outside (b ∷ t) (λ z. cc)
+by_mark c b t n rest e h s (leaves m r f g) = faulty Outside (b ∷ t) (refl, n, m, h.0, r, h.1, h.2 ∙ ap (λ x. h.0 ++ x) f, g)
 by_mark c b t n rest e h s (lies m r f g) = ran_on n m h.0 r h.1 (h.2 ∙ ap (λ x. h.0 ++ x) f) g
 
-by_count : (c : Cursor) (b : ℕ) (t : List ℕ) → eqb b 33 ≡ false → (s : Scan ℕ) → Seen Same CountForm counted (b ∷ t) s → BodyView c (b ∷ t) (and_then s (marked c (b ∷ t)))
-by_count c b t e (good n rest) h = by_mark c b t n rest e h (marked c (b ∷ t) n rest) (mark_view c (b ∷ t) n rest)
-by_count c b t e (bad TooLong rest) h = faulty TooLong rest (λ z. cc)
-by_count c b t e (bad Byte rest) h =
+by_count : (c : Cursor) (b : ℕ) (t : List ℕ) → eqb b 33 ≡ false → (s : Scan ℕ) → NoSize s → Seen Same CountForm counted (b ∷ t) s → BodyView c (b ∷ t) (and_then s (marked c (b ∷ t)))
+by_count c b t e (good n rest) k h = by_mark c b t n rest e h (marked c (b ∷ t) n rest) (mark_view c (b ∷ t) n rest)
+by_count c b t e (bad TooLong rest) k h = absurd h
+by_count c b t e (bad Byte rest) k h =
     let P : List ℕ → Type 0 = λ x. BodyView c (b ∷ t) (bad Byte x) in
     let whole : b ∷ t ≡ h.0 ++ (h.1 ∷ h.2) = h.4 ∙ ap (λ x. h.0 ++ x) h.3 in
     subst P (sym h.3)
     (misplaced h.0 h.1 h.2 whole h.5.0 h.5.1 h.5.2
     (λ w. still_run c b t h.0 h.1 h.2 w e whole ∙ ap (λ x. and_then x (marked c (h.0 ++ (h.1 ∷ w)))) (h.6 w)))
-by_count c b t e (bad Size rest) h = faulty Size rest (λ z. cc)
-by_count c b t e (bad Outside rest) h = faulty Outside rest (λ z. cc)
-by_count c b t e (bad Ended rest) h = faulty Ended rest (λ z. cc)
+by_count c b t e (bad Size rest) k h = absurd k
+by_count c b t e (bad Outside rest) k h = absurd h
+by_count c b t e (bad Ended rest) k h = let more = count_begins (b ∷ t) h.1.0 h.1.1 h.1.2 in faulty Ended rest (h.0, more.0, more.1, more.2)
 
 pub body_view : (c : Cursor) (t : List ℕ) → BodyView c t (body_item c t)
-body_view c [] = faulty Ended [] (λ z. cc)
+body_view c [] = faulty Ended [] (refl, 33 ∷ [], [], ([], [], tt, refl))
 body_view c (b ∷ t) =
     let P : Scan Taken → Type 0 = BodyView c (b ∷ t) in
     ⊎_elim
     (λ e. subst P (sym (cond-true (eqb b 33) _ _ e)) (over t (ap (λ x. x ∷ t) (eqb-true b 33 e))))
-    (λ e. subst P (sym (body_run c b t e)) (by_count c b t e (counted (b ∷ t)) (see_counted (b ∷ t))))
+    (λ e. subst P (sym (body_run c b t e)) (by_count c b t e (counted (b ∷ t)) (counted_no_size (b ∷ t)) (see_counted (b ∷ t))))
     (cases_Bool (eqb b 33))

@@ -14,11 +14,11 @@ use Rattle.rle.specs.declared.phase.Phase.{Phase}
 use Rattle.rle.specs.declared.phase.Phase.TheVariants.{Opening, Body}
 use Rattle.rle.specs.Forms.{CountForm, BodyForm, HeadForm, RemarkForm, TextForm, BareForm, ended}
 use Rattle.rle.specs.Items.{Head, Part, Taken, remark, header, run, ending, Stops, here, later, top_left, body_item, opening_item, read_item}
-use Rattle.rle.specs.Laws.{FirstFault, FaultsFirst}
+use Rattle.rle.specs.Laws.{FirstFault}
 use Rattle.rle.specs.Runs.{letter_of}
 use Rattle.rle.specs.Scans.{Scan, good, bad, past, space}
-use Rattle.rle.proofs.Bodies.{onward, fits, ran, body_reads, body_leaves, BodyView, over, ran_on, misplaced, faulty, body_view}
-use Rattle.rle.proofs.Openings.{took_remark, took_heading, OpenView, remarked, headed, open_view, remark_reads, head_reads}
+use Rattle.rle.proofs.Bodies.{onward, fits, ran, body_reads, body_leaves, RunFault, BodyView, over, ran_on, misplaced, faulty, body_view}
+use Rattle.rle.proofs.Openings.{took_remark, took_heading, OpenFault, OpenView, remarked, headed, open_view, head_begins, with_remark, remark_reads, head_reads}
 use Rattle.rle.proofs.Openings as opens
 use Rattle.rle.proofs.Pasts.{past_split, past_over, past_stays, past_stop}
 use Rattle.rle.proofs.Reading.{read_body, read_opening, past_run, past_over_end, took_part, took_phase}
@@ -29,7 +29,7 @@ pub data FormView (c : Cursor) (runs : List Run) : Scan Taken → Type 0 where
   form_runs : (n : ℕ) (m : Mark) (rs : List Run) (v : List ℕ) → BodyForm rs v → FormView c runs (good (ran c n m) v)
   form_leaves : (x : List ℕ) → FormView c runs (bad Outside x)
 
-form_view : (c : Cursor) (runs : List Run) (t : List ℕ) → BodyForm runs t → FormView c runs (body_item c (past space t))
+pub form_view : (c : Cursor) (runs : List Run) (t : List ℕ) → BodyForm runs t → FormView c runs (body_item c (past space t))
 form_view c [] t f =
     let P : List ℕ → Type 0 = λ x. FormView c [] (body_item c x) in
     subst P (sym (ap (past space) f.3 ∙ past_over_end f.0 f.1 f.2)) (form_ends f.1)
@@ -55,7 +55,7 @@ rest_form c runs n m rest s (form_runs k l rs v f) e = let same : v ≡ rest = c
 rest_form c runs n m rest s (form_leaves x) e = cc
 
 -- the end is read again and again
-no_stop : {p : Phase} {t : List ℕ} {cause : ReadCause} {at : List ℕ} → Stops p t cause at → (c : Cursor) (v : List ℕ) → p ≡ Body c → past space t ≡ 33 ∷ v → ⊥
+pub no_stop : {p : Phase} {t : List ℕ} {cause : ReadCause} {at : List ℕ} → Stops p t cause at → (c : Cursor) (v : List ℕ) → p ≡ Body c → past space t ≡ 33 ∷ v → ⊥
 no_stop {t = t} {cause = cause} {at = at} (here e) c v is f =
     let read : body_item c (33 ∷ v) ≡ bad cause at = ap (body_item c) (sym f) ∙ sym (read_body c t) ∙ subst (λ x. read_item x t ≡ bad cause at) is e in
     let took : Taken = record { part = ending; phase = Body c } in
@@ -92,7 +92,7 @@ misplaced_now c t at s (misplaced u b r e n v h g) f =
           let left : past space ((s₀ ++ u) ++ (b ∷ w)) ≡ u ++ (b ∷ w) = ap (past space) (append_assoc s₀ u (b ∷ w)) ∙ past_over space s₀ (u ++ (b ∷ w)) split.1 ∙ past_stays space t u b r w e in
           no_byte c runs (b ∷ w) (body_item c (past space ((s₀ ++ u) ++ (b ∷ w)))) (form_view c runs ((s₀ ++ u) ++ (b ∷ w)) form) (ap (body_item c) left ∙ g w),
     )
-misplaced_now c t at s (faulty cause rest h) f = let same : cause ≡ Byte = cc in absurd (h same)
+misplaced_now c t at s (faulty cause rest h) f = let same : cause ≡ Byte = cc in absurd (subst (λ k. RunFault c (past space t) k rest) same h)
 
 -- after a run
 misplaced_later : (c : Cursor) (t at rest : List ℕ) (n : ℕ) (m : Mark) (u : List ℕ) → CountForm n u → past space t ≡ u ++ (letter_of m ∷ rest) → fits c n m ≡ true → BodyFault rest at → BodyFault t at
@@ -159,7 +159,7 @@ text_view (r ∷ remarks) w h rule runs t f =
     (subst TextView (sym (remark_reads r rest f.remarked.0))
     (text_remark r rest (remarks, w, h, rule, runs, record { line = f.line; body = f.body; remarked = f.remarked.1; headed = f.headed; bodied = f.bodied; whole = refl })))
 
-bare_view : (t : List ℕ) → BareForm t → TextView (opening_item t)
+pub bare_view : (t : List ℕ) → BareForm t → TextView (opening_item t)
 bare_view t f = text_view f.0 f.1 f.2 f.3 f.4 t f.5
 
 never_byte : (at : List ℕ) (s : Scan Taken) → TextView s → s ≡ bad Byte at → ⊥
@@ -185,68 +185,28 @@ first_now t at s (remarked line rest h e) f = cc
 first_now t at s (headed head line rest h e narrow low) f = cc
 first_now t at s (opens.misplaced u b r e head v h g) f =
     let there : at ≡ b ∷ r = cc in
-    let line = h.0 in
     record {
       before = u;
       byte = b;
       after = r;
       stands = there;
       whole = e ∙ ap (λ x. u ++ x) (sym there);
-      begins = (
-        v ++ (33 ∷ []),
-        (
-          [],
-          head.width,
-          head.height,
-          head.rule,
-          [],
-          record {
-            line = line;
-            body = 33 ∷ [];
-            remarked = tt;
-            headed = h.1;
-            bodied = ([], [], tt, refl);
-            whole = sym (append_assoc u v (33 ∷ [])) ∙ ap (λ x. x ++ (33 ∷ [])) h.2 ∙ append_assoc line (10 ∷ []) (33 ∷ []);
-          },
-        ),
-      );
+      begins = (v ++ (33 ∷ []), head_begins u head v h);
       none = λ w form. never_byte (b ∷ w) (opening_item (u ++ (b ∷ w))) (bare_view (u ++ (b ∷ w)) form) (g w);
     }
-first_now t at s (opens.faulty cause rest h) f = let same : cause ≡ Byte = cc in absurd (h same)
+first_now t at s (opens.faulty cause rest h) f = let same : cause ≡ Byte = cc in absurd (subst (λ k. OpenFault t k rest) same h)
 
 -- after a remark
 first_after_remark : (t at line rest : List ℕ) → RemarkForm line → t ≡ line ++ (10 ∷ rest) → FirstFault rest at → FirstFault t at
 first_after_remark t at line rest h e f =
     let before = line ++ (10 ∷ f.before) in
-    let bare = f.begins.1 in
-    let form = bare.5 in
     record {
       before = before;
       byte = f.byte;
       after = f.after;
       stands = f.stands;
       whole = e ∙ ap (λ x. line ++ (10 ∷ x)) f.whole ∙ sym (append_assoc line (10 ∷ f.before) at);
-      begins = (
-        f.begins.0,
-        (
-          line ∷ bare.0,
-          bare.1,
-          bare.2,
-          bare.3,
-          bare.4,
-          record {
-            line = form.line;
-            body = form.body;
-            remarked = (h, form.remarked);
-            headed = form.headed;
-            bodied = form.bodied;
-            whole = append_assoc line (10 ∷ f.before) f.begins.0
-                ∙ ap (λ x. line ++ (10 ∷ x)) form.whole
-                ∙ sym (append_assoc line (10 ∷ []) (flat_map ended bare.0 ++ (form.line ++ (10 ∷ form.body))))
-                ∙ sym (append_assoc (ended line) (flat_map ended bare.0) (form.line ++ (10 ∷ form.body)));
-          },
-        ),
-      );
+      begins = (f.begins.0, subst BareForm (sym (append_assoc line (10 ∷ f.before) f.begins.0)) (with_remark line (f.before ++ f.begins.0) h f.begins.1));
       none = λ w all.
           let tail = f.before ++ (f.byte ∷ w) in
           let text = before ++ (f.byte ∷ w) in
@@ -317,5 +277,5 @@ first_fault {t = t} {at = at} (later x q rest e more) byte is =
     let read : opening_item t ≡ good taken rest = sym (read_opening t) ∙ subst (λ y. read_item y t ≡ good taken rest) is e in
     by_opening t at x q rest (opening_item t) (open_view t) read (subst (λ y. Stops q rest y at) byte more) (λ same. first_fault more byte same)
 
-pub faults_first : FaultsFirst
+pub faults_first : (text at : List ℕ) → Stops Opening text Byte at → FirstFault text at
 faults_first text at s = first_fault s refl refl

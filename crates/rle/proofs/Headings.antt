@@ -1,17 +1,19 @@
 -- Headings: what reading one shows, and that the forms of headings are read.
-use Rattle.std.proofs.Common.{◌≡◌, ℕ, ◌≤◌, true, false, eqb, leb, ◌⊎◌, List, [], ◌∷◌, ◌++◌, Some, None, Option, sym, refl, ap, ◌∙◌, subst, inl, inr, ⊎_elim, arith}
-use Rattle.std.proofs.lemmas.List.{append_assoc}
+use Rattle.std.proofs.Common.{◌≡◌, ℕ, ◌<◌, ◌≤◌, true, false, eqb, leb, ◌⊎◌, List, [], ◌∷◌, ◌++◌, drop, Some, None, Option, sym, refl, ap, ◌∙◌, subst, inl, inr, ⊎_elim, arith}
+use Rattle.std.proofs.lemmas.List.{append_assoc, append-nil}
 use Rattle.std.proofs.lemmas.Bool.{cases_Bool, cond-true, cond-false, eqb-true, leb-true, leb-false}
 use Rattle.std.proofs.lemmas.Bool.Decides.{nat_tests}
-use Rattle.lines.specs.Lines.{blank, first_line, trimmed}
+use Rattle.lines.specs.Lines.{blank, line_length, first_line, trimmed}
 use Rattle.rle.specs.declared.fault.ReadCause.TheVariants.{Byte, Size}
-use Rattle.rle.specs.Forms.{Each, on_line, Spells, Numeral, RuleForm, HeadForm}
+use Rattle.rle.specs.Forms.{Each, on_line, Spells, Numeral, NoDigit, RuleForm, HeadForm}
 use Rattle.rle.specs.Items.{Head, before_width, before_height, before_rule, line_over, ruled, unruled, tailed, heading}
-use Rattle.rle.specs.Scans.{Scan, good, bad, and_then, past, digit, in_turn, size, judged}
+use Rattle.rle.specs.Laws.{BeforeSize, LargeSize}
+use Rattle.rle.specs.Scans.{Scan, good, bad, and_then, this_byte, past, digit, in_turn, size, judged}
 use Rattle.rle.proofs.Lines.{first_of, over_of, line_view, trimmed_split, trimmed_over, trimmed_twice, each_front, each_both, blanks_on_line, solid_line, solid_front}
-use Rattle.rle.proofs.Numerals.{NoDigit, numeral_solid, one_numeral, see_size, size_reads, size_small}
+use Rattle.rle.proofs.Numerals.{numeral_solid, one_numeral, see_size, size_judged, size_reads, size_small}
 use Rattle.rle.proofs.Pasts.{past_split, past_over, past_stop, past_first, past_end}
-use Rattle.rle.proofs.Seen.{Seen, Both, seen_then, seen_as, begins_with}
+use Rattle.rle.proofs.Seen.{Seen, Same, Both, seen_then, seen_as, begins_with}
+use Rattle.rle.proofs.Sizes.{NoSize, no_size, then_no_size, if_no_size, byte_no_size, turn_no_size, then_bad, large_number}
 use Rattle.rle.proofs.Turns.{Spelled, plain, spells_plain, see_turn, turn_reads, turn_past}
 
 -- two headings of one size
@@ -44,7 +46,28 @@ see_ruled w h t solid =
     let P : Scan Head → Type 0 = Seen Alike (Ruled w h) (ruled w h) t in
     let view = line_view t in
     ⊎_elim
-    (λ e. subst P (sym (ap (λ x. and_then x (λ _ rest. good (named w h t) rest)) e)) tt)
+    (λ e.
+    let split = trimmed_split t in
+    let on : Each on_line t = subst (Each on_line) (sym e.1) view.0 in
+    subst P (sym (ap (λ x. and_then x (λ _ rest. good (named w h t) rest)) e.0)) (
+      refl,
+      (
+        named w h t,
+        10 ∷ [],
+        (
+          refl,
+          refl,
+          trimmed t,
+          split.0,
+          ap (λ x. Some (trimmed x)) (sym e.1),
+          split.1,
+          each_front on_line (trimmed t) split.0 (subst (Each on_line) split.2 on),
+          subst (λ x. past blank x ≡ x) split.2 solid,
+          trimmed_twice t,
+          ap (λ x. x ++ (10 ∷ [])) split.2,
+        ),
+      ),
+    ))
     (λ over.
     let line = first_line t in
     let split = trimmed_split line in
@@ -140,7 +163,7 @@ tail_stops w h (b ∷ bs) c v h₂ e s =
     tail_unruled w h b (bs ++ (c ∷ v)) (blank_no_comma b h₂.0) ∙ ap (unruled w h) (past_over blank (b ∷ bs) (c ∷ v) h₂ ∙ past_stop blank c v s)
 
 unruled_seen : (w h b : ℕ) (t bs p : List ℕ) → eqb b 44 ≡ false → Each blank bs → b ∷ t ≡ bs ++ p → past blank (b ∷ t) ≡ p → Seen Alike (Tail w h) (tailed w h) (b ∷ t) (unruled w h p)
-unruled_seen w h b t bs [] e g s q = tt
+unruled_seen w h b t bs [] e g s q = (refl, (nameless w h [], 10 ∷ [], (refl, refl, bs, g, ap (λ x. x ++ (10 ∷ [])) (s ∙ append-nil bs))))
 unruled_seen w h b t bs (c ∷ cs) e g s q =
     let P : Scan Head → Type 0 = Seen Alike (Tail w h) (tailed w h) (b ∷ t) in
     let solid = past_first blank (b ∷ t) c cs q in
@@ -171,7 +194,7 @@ unruled_seen w h b t bs (c ∷ cs) e g s q =
     (cases_Bool (eqb c 10))
 
 see_tail : (w h : ℕ) (t : List ℕ) → Seen Alike (Tail w h) (tailed w h) t (tailed w h t)
-see_tail w h [] = tt
+see_tail w h [] = (refl, (nameless w h [], 10 ∷ [], (refl, refl, [], tt, refl)))
 see_tail w h (b ∷ t) =
     let P : Scan Head → Type 0 = Seen Alike (Tail w h) (tailed w h) (b ∷ t) in
     ⊎_elim
@@ -344,3 +367,115 @@ heading_small t head rest e =
     let d = then_good (size c.1) (λ h x. tailed b.0 h x) head rest c.3 in
     let sizes = tail_sizes b.0 d.0 d.1 head rest d.3 in
     (subst (λ x. x ≤ 32) (sym sizes.0) (size_small a.1 b.0 b.1 b.2), subst (λ x. x ≤ 32) (sym sizes.1) (size_small c.1 d.0 d.1 d.2))
+
+-- what follows a height is at no fault for a size
+ruled_no_size : (w h : ℕ) (t : List ℕ) → NoSize (ruled w h t)
+ruled_no_size w h t = then_no_size (line_over t) (λ _ rest. good (named w h t) rest) (byte_no_size 10 (drop (line_length t) t)) (λ a v. tt)
+
+unruled_no_size : (w h : ℕ) (t : List ℕ) → NoSize (unruled w h t)
+unruled_no_size w h t = then_no_size (this_byte 10 t) (λ _ rest. good (nameless w h t) rest) (byte_no_size 10 t) (λ a v. tt)
+
+tail_no_size : (w h : ℕ) (t : List ℕ) → NoSize (tailed w h t)
+tail_no_size w h [] = tt
+tail_no_size w h (b ∷ t) =
+    if_no_size (eqb b 44) (and_then (in_turn before_rule (b ∷ t)) (λ _ rest. ruled w h rest)) (unruled w h (past blank (b ∷ t)))
+    (then_no_size (in_turn before_rule (b ∷ t)) (λ _ rest. ruled w h rest) (turn_no_size before_rule (b ∷ t)) (λ a v. ruled_no_size w h v))
+    (unruled_no_size w h (past blank (b ∷ t)))
+
+at_size : (t rest at u : List ℕ) → t ≡ u ++ rest → BeforeSize u → size rest ≡ bad Size at → LargeSize t at
+at_size t rest at u e leads f =
+    let l = large_number rest at f in
+    record {
+      remarks = [];
+      before = u;
+      number = l.0;
+      digits = l.1;
+      after = l.2;
+      remarked = tt;
+      leads = leads;
+      numeral = l.3;
+      over = l.4;
+      large = l.5;
+      stands = l.6;
+      whole = e ∙ ap (λ x. u ++ x) l.7;
+    }
+
+large_height : (t at first width rest : List ℕ) (w : ℕ) → Spells before_width first → Numeral w width → w ≤ 32 → t ≡ first ++ (width ++ rest) → from_width w rest ≡ bad Size at → LargeSize t at
+large_height t at first width rest w spelled is few e f =
+    let P : Scan (Unit {0}) → Type 0 = Seen Same (Spelled before_height) (in_turn before_height) rest in
+    ⊎_elim
+    (λ g. absurd (no_size (in_turn before_height rest) at (turn_no_size before_height rest) g))
+    (λ a.
+    let s = subst P a.2 (see_turn before_height rest) in
+    let whole : t ≡ (first ++ (width ++ s.0)) ++ a.1 = e ∙ ap (λ x. first ++ (width ++ x)) s.2 ∙ simp append_assoc in
+    ⊎_elim
+    (λ g. at_size t a.1 at (first ++ (width ++ s.0)) whole (inr (first, w, width, s.0, spelled, is, few, s.1, refl)) g)
+    (λ b. absurd (no_size (tailed w b.0 b.1) at (tail_no_size w b.0 b.1) b.3))
+    (then_bad (size a.1) (λ h d. tailed w h d) Size at a.3))
+    (then_bad (in_turn before_height rest) (λ _ c. and_then (size c) (λ h d. tailed w h d)) Size at f)
+
+-- a heading that is at fault for a size has one over 32
+pub heading_large : (t at : List ℕ) → heading t ≡ bad Size at → LargeSize t at
+unfolding heading
+heading_large t at e =
+    let P : Scan (Unit {0}) → Type 0 = Seen Same (Spelled before_width) (in_turn before_width) t in
+    ⊎_elim
+    (λ f. absurd (no_size (in_turn before_width t) at (turn_no_size before_width t) f))
+    (λ a.
+    let s = subst P a.2 (see_turn before_width t) in
+    let Q : Scan ℕ → Type 0 = Seen Same Numeral size a.1 in
+    ⊎_elim
+    (λ f. at_size t a.1 at s.0 s.2 (inl s.1) f)
+    (λ b.
+    let n = subst Q b.2 (see_size a.1) in
+    large_height t at s.0 n.0 b.1 b.0 s.1 n.1 (size_small a.1 b.0 b.1 b.2) (s.2 ∙ ap (λ x. s.0 ++ x) n.2) b.3)
+    (then_bad (size a.1) from_width Size at a.3))
+    (then_bad (in_turn before_width t) (λ _ a. and_then (size a) from_width) Size at e)
+
+-- the shortest heading
+pub default_heading : (head : Head) × (v : List ℕ) × Headed head v
+default_heading = let d = default_sizes in (d.0, plain before_width ++ d.1, is_headed d.0 (plain before_width ++ d.1) (tt, plain before_width, d.1, spells_plain before_width, d.2, refl))
+
+-- a size over 32 is at fault where it starts
+size_over : (n : ℕ) (u v : List ℕ) → Numeral n u → NoDigit v → 32 < n → size (u ++ v) ≡ bad Size (u ++ v)
+size_over n u v is over large = size_reads n u v is over ∙ cond-false (leb n 32) (good n v) (bad Size (u ++ v)) (grind (arith, nat_tests))
+
+width_over : (text at before : List ℕ) (l : LargeSize text at) → Spells before_width before → heading (before ++ at) ≡ bad Size at
+unfolding heading
+width_over text at before l spelled =
+    let solid : past blank at ≡ at = ap (past blank) l.stands ∙ numeral_solid l.number l.digits l.after l.numeral ∙ sym l.stands in
+    let turn : in_turn before_width (before ++ at) ≡ good tt at = turn_reads before_width before at (refl, (refl, tt)) spelled solid in
+    let sized : size at ≡ bad Size at = ap size l.stands ∙ size_over l.number l.digits l.after l.numeral l.over l.large ∙ ap (bad Size) (sym l.stands) in
+    ap (λ x. and_then x (λ _ a. and_then (size a) from_width)) turn ∙ ap (λ x. and_then x from_width) sized
+
+height_over : (text at first width second : List ℕ) (w : ℕ) (l : LargeSize text at) → Spells before_width first → Numeral w width → w ≤ 32 → Spells before_height second → heading ((first ++ (width ++ second)) ++ at) ≡ bad Size at
+unfolding heading
+height_over text at first width second w l spelled is few comma =
+    let rest = second ++ at in
+    let whole : (first ++ (width ++ second)) ++ at ≡ first ++ (width ++ rest) = simp append_assoc in
+    let solid : past blank at ≡ at = ap (past blank) l.stands ∙ numeral_solid l.number l.digits l.after l.numeral ∙ sym l.stands in
+    let turn : in_turn before_width (first ++ (width ++ rest)) ≡ good tt (width ++ rest) = turn_reads before_width first (width ++ rest) (refl, (refl, tt)) spelled (numeral_solid w width rest is) in
+    let over : NoDigit rest = subst (λ x. NoDigit (x ++ at)) (sym comma.4) refl in
+    let sized : size (width ++ rest) ≡ good w rest = size_reads w width rest is over ∙ size_judged w (width ++ rest) rest few in
+    let turned : in_turn before_height rest ≡ good tt at = turn_reads before_height second at (refl, (refl, (refl, tt))) comma solid in
+    let large : size at ≡ bad Size at = ap size l.stands ∙ size_over l.number l.digits l.after l.numeral l.over l.large ∙ ap (bad Size) (sym l.stands) in
+    ap heading whole
+    ∙ ap (λ x. and_then x (λ _ a. and_then (size a) from_width)) turn
+    ∙ ap (λ x. and_then x from_width) sized
+    ∙ ap (λ x. and_then x (λ _ c. and_then (size c) (λ h d. tailed w h d))) turned
+    ∙ ap (λ x. and_then x (λ h d. tailed w h d)) large
+
+pub heading_over : (text at : List ℕ) (l : LargeSize text at) → heading (l.before ++ at) ≡ bad Size at
+heading_over text at l =
+    ⊎_elim
+    (λ s. width_over text at l.before l s)
+    (λ p. ap (λ x. heading (x ++ at)) p.8 ∙ height_over text at p.0 p.2 p.3 p.1 l p.4 p.5 p.6 p.7)
+    l.leads
+
+-- and its line begins with x
+pub over_starts : (text at : List ℕ) (l : LargeSize text at) → (rest : List ℕ) × (l.before ++ at ≡ 120 ∷ rest)
+over_starts text at l =
+    ⊎_elim
+    (λ s. ((s.0 ++ s.1) ++ at, ap (λ x. x ++ at) s.4))
+    (λ p. let s = p.4 in (((s.0 ++ s.1) ++ (p.2 ++ p.3)) ++ at, ap (λ x. x ++ at) (p.8 ∙ ap (λ x. x ++ (p.2 ++ p.3)) s.4)))
+    l.leads

@@ -8,7 +8,11 @@ pub mod Numerals
 pub mod Openings
 pub mod Pasts
 pub mod Patterns
+pub mod Places
 pub mod Reading
 pub mod Seen
+pub mod Sizes
+pub mod Stopping
+pub mod Stops
 pub mod Turns
 pub mod Written

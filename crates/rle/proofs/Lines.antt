@@ -29,9 +29,9 @@ pub over_of : (l v : List ℕ) → Each on_line l → line_over (l ++ (10 ∷ v)
 over_of l v h = ap (λ n. this_byte 10 (drop n (l ++ (10 ∷ v)))) (line_of l v h) ∙ ap (this_byte 10) (drop-append_seam l (10 ∷ v))
 
 -- the first line has no newline, and a newline or nothing follows it
-pub line_view : (t : List ℕ) → Each on_line (first_line t) × ((line_over t ≡ bad Ended []) ⊎ ((r : List ℕ) × (line_over t ≡ good tt r) × (t ≡ first_line t ++ (10 ∷ r))))
+pub line_view : (t : List ℕ) → Each on_line (first_line t) × (((line_over t ≡ bad Ended []) × (t ≡ first_line t)) ⊎ ((r : List ℕ) × (line_over t ≡ good tt r) × (t ≡ first_line t ++ (10 ∷ r))))
 unfolding line_length
-line_view [] = (tt, inl refl)
+line_view [] = (tt, inl (refl, refl))
 line_view (b ∷ t) =
     ⊎_elim
     (λ e. rw (line_stop b t e) (tt, inr (t, ap (this_byte 10) (ap (λ x. x ∷ t) (eqb-true b 10 e)), ap (λ x. x ∷ t) (eqb-true b 10 e))))
@@ -39,7 +39,7 @@ line_view (b ∷ t) =
     let more = line_view t in
     rw (line_on b t e) (
       (not_from_false (eqb b 10) e, more.0),
-      ⊎_elim (λ over. inl over) (λ over. inr (over.0, over.1, ap (λ x. b ∷ x) over.2)) more.1,
+      ⊎_elim (λ over. inl (over.0, ap (λ x. b ∷ x) over.1)) (λ over. inr (over.0, over.1, ap (λ x. b ∷ x) over.2)) more.1,
     ))
     (cases_Bool (eqb b 10))
 

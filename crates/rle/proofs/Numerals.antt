@@ -6,7 +6,7 @@ use Rattle.std.proofs.lemmas.Bool.{and_parts, and_from, cases_Bool, cond-true, c
 use Rattle.std.proofs.lemmas.Bool.Decides.{nat_tests}
 use Rattle.lines.specs.Lines.{blank}
 use Rattle.rle.specs.declared.fault.ReadCause.TheVariants.{TooLong, Byte, Size, Outside, Ended}
-use Rattle.rle.specs.Forms.{Each, Numeral}
+use Rattle.rle.specs.Forms.{Each, Numeral, NoDigit}
 use Rattle.rle.specs.Scans.{Scan, good, bad, and_then, past, digit, digits_on, numeral, judged, size}
 use Rattle.rle.proofs.Pasts.{past_stop}
 use Rattle.rle.proofs.Seen.{Seen, Same}
@@ -78,7 +78,7 @@ one_more m n b t some few e (good k rest) h =
       ap (λ x. b ∷ x) h.2,
       λ c r v f. let here = h.3 c r v f in (here.0, digits_on_step m n b (h.0 ++ (c ∷ v)) e ∙ here.1, here.2),
     )
-one_more m n b t some few e (bad TooLong rest) h = tt
+one_more m n b t some few e (bad TooLong rest) h = absurd h
 one_more m n b t some few e (bad Byte rest) h =
     let p = digit_parts b e in (
       b ∷ h.0,
@@ -90,8 +90,11 @@ one_more m n b t some few e (bad Byte rest) h =
       λ v. digits_on_step m n b (h.0 ++ (h.1 ∷ v)) e ∙ h.6 v,
     )
 one_more m n b t some few e (bad Size rest) h = tt
-one_more m n b t some few e (bad Outside rest) h = tt
-one_more m n b t some few e (bad Ended rest) h = tt
+one_more m n b t some few e (bad Outside rest) h = absurd h
+one_more m n b t some few e (bad Ended rest) h =
+    let p = digit_parts b e in
+    let q = h.1.2 in
+    (h.0, (h.1.0, h.1.1, (longer_by n b h.1.0 (t ++ h.1.1) some few p.0 p.1 q.0, q.1, q.2)))
 
 see_digits : (m n : ℕ) (t : List ℕ) → m ≤ 3 → 1 ≤ n → n ≤ most m → Seen Same (Longer n) (digits_on m n) t (digits_on m n t)
 unfolding digits_on
@@ -140,7 +143,7 @@ begun b t e (good k rest) h =
       ap (λ x. b ∷ x) h.2,
       λ c r v f. let here = h.3 c r v f in (here.0, numeral_starts b (h.0 ++ (c ∷ v)) e ∙ here.1, here.2),
     )
-begun b t e (bad TooLong rest) h = tt
+begun b t e (bad TooLong rest) h = absurd h
 begun b t e (bad Byte rest) h =
     let p = leading_parts b e in (
       b ∷ h.0,
@@ -152,15 +155,43 @@ begun b t e (bad Byte rest) h =
       λ v. numeral_starts b (h.0 ++ (h.1 ∷ v)) e ∙ h.6 v,
     )
 begun b t e (bad Size rest) h = tt
-begun b t e (bad Outside rest) h = tt
-begun b t e (bad Ended rest) h = tt
+begun b t e (bad Outside rest) h = absurd h
+begun b t e (bad Ended rest) h =
+    let p = leading_parts b e in
+    let q = h.1.2 in
+    (h.0, (h.1.0, h.1.1, (q.1, q.2, sym (q.0 ∙ ap (λ x. x ++ (t ++ h.1.1)) (first_digit b p.0 p.1)))))
+
+-- no digit follows a number that is read
+digits_over : (m n : ℕ) (t : List ℕ) (k : ℕ) (v : List ℕ) → digits_on m n t ≡ good k v → NoDigit v
+unfolding digits_on
+digits_over zero n [] k v e = let same : [] ≡ v = cc in subst NoDigit same tt
+digits_over (suc m) n [] k v e = let same : [] ≡ v = cc in subst NoDigit same tt
+digits_over zero n (b ∷ t) k v e =
+    ⊎_elim
+    (λ d. let z : bad Byte (b ∷ t) ≡ good k v = sym (digits_full n b t d) ∙ e in cc)
+    (λ d. let z : good n (b ∷ t) ≡ good k v = sym (digits_stop 0 n b t d) ∙ e in let same : b ∷ t ≡ v = cc in subst NoDigit same d)
+    (cases_Bool (digit b))
+digits_over (suc m) n (b ∷ t) k v e =
+    ⊎_elim
+    (λ d. digits_over m (n * 10 + (b - 48)) t k v (sym (digits_on_step m n b t d) ∙ e))
+    (λ d. let z : good n (b ∷ t) ≡ good k v = sym (digits_stop (suc m) n b t d) ∙ e in let same : b ∷ t ≡ v = cc in subst NoDigit same d)
+    (cases_Bool (digit b))
+
+pub numeral_over : (t : List ℕ) (k : ℕ) (v : List ℕ) → numeral t ≡ good k v → NoDigit v
+unfolding numeral
+numeral_over [] k v e = cc
+numeral_over (b ∷ t) k v e =
+    ⊎_elim
+    (λ d. digits_over 3 (b - 48) t k v (sym (numeral_starts b t d) ∙ e))
+    (λ d. let z : bad Byte (b ∷ t) ≡ good k v = sym (numeral_none b t d) ∙ e in cc)
+    (cases_Bool (leading b))
 
 pub one_numeral : Numeral 1 (49 ∷ [])
 one_numeral = (omega arith, omega arith, sym (decimal_digit 1 (omega arith)))
 
 pub see_numeral : (t : List ℕ) → Seen Same Numeral numeral t (numeral t)
 unfolding numeral
-see_numeral [] = tt
+see_numeral [] = (refl, (1, 49 ∷ [], one_numeral))
 see_numeral (b ∷ t) =
     let P : Scan ℕ → Type 0 = Seen Same Numeral numeral (b ∷ t) in
     ⊎_elim
@@ -189,11 +220,11 @@ judge t (good n rest) h =
     ))
     (λ e. subst P (sym (cond-false (leb n 32) (good n rest) (bad Size t) e)) tt)
     (cases_Bool (leb n 32))
-judge t (bad TooLong rest) h = tt
+judge t (bad TooLong rest) h = absurd h
 judge t (bad Byte rest) h = (h.0, h.1, h.2, h.3, h.4, h.5, λ v. ap (λ x. and_then x (judged (h.0 ++ (h.1 ∷ v)))) (h.6 v))
 judge t (bad Size rest) h = tt
-judge t (bad Outside rest) h = tt
-judge t (bad Ended rest) h = tt
+judge t (bad Outside rest) h = absurd h
+judge t (bad Ended rest) h = h
 
 pub see_size : (t : List ℕ) → Seen Same Numeral size t (size t)
 unfolding size
@@ -211,11 +242,6 @@ small t (bad c v) n rest e = cc
 pub size_small : (t : List ℕ) (n : ℕ) (rest : List ℕ) → size t ≡ good n rest → n ≤ 32
 unfolding size
 size_small t n rest e = small t (numeral t) n rest e
-
--- what a text goes on with after a number: no digit
-abbrev pub NoDigit : List ℕ → Type 0
-NoDigit [] = Unit {0}
-NoDigit (b ∷ t) = digit b ≡ false
 
 -- the number that digits put to n
 abbrev with_digits : ℕ → List ℕ → ℕ

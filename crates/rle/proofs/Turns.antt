@@ -54,7 +54,7 @@ after_one s ss b t e (good a rest) h =
             here.2,
           ),
     )
-after_one s ss b t e (bad TooLong rest) h = tt
+after_one s ss b t e (bad TooLong rest) h = absurd h
 after_one s ss b t e (bad Byte rest) h =
     let g = gap_split (is_loose s) t in
     let same = eqb-true b (byte_of s) e in
@@ -72,8 +72,13 @@ after_one s ss b t e (bad Byte rest) h =
           ∙ h.6 v,
     )
 after_one s ss b t e (bad Size rest) h = tt
-after_one s ss b t e (bad Outside rest) h = tt
-after_one s ss b t e (bad Ended rest) h = tt
+after_one s ss b t e (bad Outside rest) h = absurd h
+after_one s ss b t e (bad Ended rest) h =
+    let g = gap_split (is_loose s) t in
+    let left = gap (is_loose s) t in
+    let same = eqb-true b (byte_of s) e in
+    let split : (b ∷ t) ++ h.1.1 ≡ byte_of s ∷ (g.0 ++ (left ++ h.1.1)) = ap (λ x. (x ∷ t) ++ h.1.1) same ∙ ap (λ x. byte_of s ∷ (x ++ h.1.1)) g.2 ∙ ap (λ x. byte_of s ∷ x) (append_assoc g.0 left h.1.1) in
+    (h.0, (tt, h.1.1, (g.0, left ++ h.1.1, g.1, h.1.2, split)))
 
 by_first : (s : Step) (ss : List Step) (b : ℕ) (t : List ℕ) (x : Bool) → eqb b (byte_of s) ≡ x → Seen Same (Spelled ss) (in_turn ss) (gap (is_loose s) t) (in_turn ss (gap (is_loose s) t)) → Seen Same (Spelled (s ∷ ss)) (in_turn (s ∷ ss)) (b ∷ t) (in_turn (s ∷ ss) (b ∷ t))
 by_first s ss b t true e h =
@@ -86,7 +91,7 @@ by_first s ss b t false e h =
 pub see_turn : (ss : List Step) (t : List ℕ) → Seen Same (Spelled ss) (in_turn ss) t (in_turn ss t)
 unfolding in_turn
 see_turn [] t = ([], refl, refl, λ b r v e. (tt, refl, refl))
-see_turn (s ∷ ss) [] = tt
+see_turn (s ∷ ss) [] = (refl, (tt, plain (s ∷ ss), spells_plain (s ∷ ss)))
 see_turn (s ∷ ss) (b ∷ t) = by_first s ss b t (eqb b (byte_of s)) refl (see_turn ss (gap (is_loose s) t))
 
 -- the bytes of steps are no blanks

@@ -5,7 +5,7 @@ use Rattle.lines.specs.Lines.{blank, trimmed}
 use Rattle.rle.specs.declared.mark.Run.{Run}
 use Rattle.rle.specs.declared.phase.Step.{Step}
 use Rattle.rle.specs.Runs.{letter_of}
-use Rattle.rle.specs.Scans.{past, space, byte_of, is_loose}
+use Rattle.rle.specs.Scans.{past, space, digit, byte_of, is_loose}
 use Rattle.rle.specs.Items.{before_width, before_height, before_rule}
 
 -- every byte passes a test
@@ -30,6 +30,11 @@ Spells (s ∷ ss) t = (bs : List ℕ) × (u : List ℕ) × Gap (is_loose s) bs �
 -- a number of one to four digits without a leading zero
 abbrev pub Numeral : ℕ → List ℕ → Type 0
 Numeral n u = (1 ≤ n) × (n ≤ 9999) × (u ≡ decimal n)
+
+-- what begins with no digit
+abbrev pub NoDigit : List ℕ → Type 0
+NoDigit [] = Unit {0}
+NoDigit (b ∷ t) = digit b ≡ false
 
 -- what stands in a heading's line after the height: blanks, or `, rule =`, a rule that does not end with a blank, and blanks; those
 -- right after the = are its own
@@ -60,6 +65,12 @@ abbrev pub BodyForm : List Run → List ℕ → Type 0
 BodyForm [] t = (s : List ℕ) × (v : List ℕ) × Each space s × (t ≡ s ++ (33 ∷ v))
 BodyForm (r ∷ rs) t =
     (s : List ℕ) × (u : List ℕ) × (v : List ℕ) × Each space s × CountForm r.count u × BodyForm rs v × (t ≡ s ++ (u ++ (letter_of r.mark ∷ v)))
+
+-- runs alone, with blanks and newlines before each and after the last
+abbrev pub RunsForm : List Run → List ℕ → Type 0
+RunsForm [] t = Each space t
+RunsForm (r ∷ rs) t =
+    (s : List ℕ) × (u : List ℕ) × (v : List ℕ) × Each space s × CountForm r.count u × RunsForm rs v × (t ≡ s ++ (u ++ (letter_of r.mark ∷ v)))
 
 -- a line that starts with #
 abbrev pub RemarkForm : List ℕ → Type 0

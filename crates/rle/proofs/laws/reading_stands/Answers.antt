@@ -1,6 +1,16 @@
-use Rattle.rle.proofs.Faulting.{faults_first}
 use Rattle.rle.proofs.Reading.{reads_every, reads_only}
+use Rattle.rle.proofs.Stopping.{stops_at_fault}
+use Rattle.rle.proofs.Stops.{stops_at_large, stops_outside, stops_once}
+use Rattle.rle.proofs.Places.{places_count}
 use Rattle.rle.proofs.laws.reading_stands.Goals as goal
 
 pub returns : goal.returns
-returns c = record { every = reads_every; only = reads_only; first = faults_first }
+returns c = record {
+  every = reads_every;
+  only = reads_only;
+  faults = stops_at_fault;
+  large = stops_at_large;
+  outside = stops_outside;
+  once = stops_once;
+  placed = places_count;
+}
