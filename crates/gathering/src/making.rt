@@ -1,36 +1,43 @@
-ghost use Rattle.std.specs.Prelude.{◌≡◌, ℕ, ◌+◌, ◌<◌, ◌≤◌, IfOk, length, vec_len};
+ghost use Rattle.std.specs.Prelude.{◌≡◌, ◌+◌, ◌<◌, ◌≤◌, IfOk, length};
 ghost use Rattle.rolls.specs.Rolls.{surface};
-ghost use Rattle.planes.specs.declared.tie.Tie.{Tie};
-ghost use Rattle.systems.specs.Spaces.{all_instances};
 ghost use Rattle.gathering.specs.Bounds.{EachNames, Under};
-ghost use Rattle.gathering.specs.Rendering.{AllTouching, Classed, OnlyTouching, SameInstances, kept};
-ghost use Rattle.gathering.specs.Systems.{class_count, instances_of, touching_of};
+ghost use Rattle.gathering.specs.Rendering.{AllTouching, OnlyTouching};
+ghost use Rattle.gathering.specs.Systems.{SystemOf, class_count, instances_of, touching_of};
 
 use crate::building::gathered;
 use crate::ground::Ground;
 use crate::system::System;
 use crate::touching::touching_each;
-use classes::Classes;
-use planes::Plane;
+use classes::{Classes, classes_of};
+use planes::{Plane, Space};
 use std::alloc::{AllocError, Global};
 use systems::Instance;
 
 impl System {
-    // The system of a plane and its classes.
-    pub fn of<P: Plane>(heap: Global, plane: &P, classes: &Classes) -> Result<System, AllocError>
-        ensures count { IfOk result (λ s. class_count s ≡ vec_len classes.now.lowest) }
-        ensures rendered { Classed (P.Plane.means plane.now).frame classes.now → (rows : ℕ) (tie : ℕ → ℕ → Tie) → IfOk result (λ s. SameInstances (instances_of s) (all_instances (surface (P.Plane.means plane.now) rows tie) (kept classes.now))) }
+    /// The system of a space: its classes, and over them the instances of every place in and around the
+    /// box. Refused only for want of memory.
+    pub fn of<S: Space>(heap: Global, space: &S) -> Result<System, AllocError>
+        ensures { IfOk result (SystemOf (surface (S.Plane.means space.now) (S.Space.count space.now) (S.Space.tied space.now))) }
     {
-        let instances = gathered(heap, &Ground::of(plane, classes))?;
+        let classes = classes_of(heap, space)?;
+        let instances = gathered(heap, &Ground::of(space, &classes))?;
         let touching = touching_each(heap, instances.as_slice(), classes.count())?;
         Ok(System {
+            classes,
             instances,
             touching,
         })
     }
 
+    /// The classes of the space: the class of each cell, and what is asked of each class.
+    pub fn classes(&self) -> &Classes
+        ensures { result.now ≡ self.now.classes }
+    {
+        &self.classes
+    }
+
     // How many classes there are; the one past the last is nothing.
-    pub fn classes(&self) -> usize
+    pub fn count(&self) -> usize
         ensures value { result ≡ class_count self.now }
         ensures few { result ≤ 4096 }
     {

@@ -22,6 +22,7 @@ use Rattle.search.specs.Calls.{Goes, reply_of, state_in}
 use Rattle.search.specs.Moves.{Gone, reply_in}
 use Rattle.search.specs.Opening.{Searches}
 use Rattle.search.specs.Records.{AsOpened}
+use Rattle.gathering.specs.declared.system.System.{System}
 use Rattle.settling.specs.Boards.{values_of}
 use Rattle.search.specs.Stacks.{find_in, Stack, all_meant, decided, undecided}
 use Rattle.search.specs.Standings.{Follows, state_of}
@@ -63,7 +64,7 @@ module _ (s : Surface) (rule : Rule) (cell : ℕ → ℕ) (r r' : Record) (h : S
       record {
         frame = kept.frame ∙ h.frame;
         same_rule = kept.rule ∙ h.same_rule;
-        classes = ap (λ c. c.labels.items) kept.classes ∙ h.classes;
+        classes = ap (λ (y : System). y.classes.labels.items) kept.board.system ∙ h.classes;
         inside = h.inside;
         system = h.system;
         alike = h.alike;

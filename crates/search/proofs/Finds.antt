@@ -17,7 +17,7 @@ use Rattle.frames.specs.declared.frame.Frame.{Frame}
 use Rattle.frames.specs.Frames.{cells}
 use Rattle.rolls.specs.Rolls.{Surface}
 use Rattle.systems.specs.Systems.{at}
-use Rattle.settling.specs.Boards.{values_of}
+use Rattle.settling.specs.Boards.{labels_of, values_of}
 use Rattle.systems.specs.Spaces.{spread}
 use Rattle.pages.specs.Pages.{Written}
 use Rattle.pages.specs.declared.fault.PageFault.{PageFault}
@@ -37,11 +37,11 @@ on_at [] x = refl
 on_at (w ∷ ws) zero = refl
 on_at (w ∷ ws) (suc x) = on_at ws x
 
-pub cell_on : (r : Record) (cell class : ℕ) → class ≡ slice_index r.classes.labels.items cell → cell < length r.classes.labels.items → is_on (at (values_of r.board) class) ≡ get_or (found_cells r) cell false
+pub cell_on : (r : Record) (cell class : ℕ) → class ≡ slice_index (labels_of r.board) cell → cell < length (labels_of r.board) → is_on (at (values_of r.board) class) ≡ get_or (found_cells r) cell false
 cell_on r cell class e l =
     ap (λ (x : ℕ). is_on (at (values_of r.board) x)) e
     ∙ sym (on_at (values_of r.board) _)
-    ∙ sym (get_or-map (λ class. get_or (find_in (values_of r.board)) class false) r.classes.labels.items cell 0 false l)
+    ∙ sym (get_or-map (λ class. get_or (find_in (values_of r.board)) class false) (labels_of r.board) cell 0 false l)
 
 -- ---- the same cells have the same text
 pub text_same : (w h : ℕ) (name : List ℕ) (xs ys : List Bool) → w * h ≤ length xs → w * h ≤ length ys → ((k : ℕ) → k < w * h → get_or xs k false ≡ get_or ys k false) → pattern_text w h name xs ≡ pattern_text w h name ys
@@ -80,7 +80,7 @@ asked_text r pattern l same = text_same r.frame.width r.frame.height (written r.
     few = places_few r.frame
 
     enough : r.frame.width * r.frame.height ≤ length (found_cells r)
-    enough = omega (arith, places_within r.frame, r.classed, r.classes.labels.ok.0, length-map r.classes.labels.items (λ class. get_or (find_in (values_of r.board)) class false))
+    enough = omega (arith, places_within r.frame, r.classed, length-map (labels_of r.board) (λ class. get_or (find_in (values_of r.board)) class false))
 
 pub text_ok : (old text text' new : List ℕ) (at end : ℕ) → text' ≡ text → Written old at text' new (Ok end) → WriteText text old at new (Ok end)
 text_ok old text text' new at end e w = subst (λ (t : List ℕ). Written old at t new (Ok end)) e w

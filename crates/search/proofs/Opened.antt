@@ -1,5 +1,5 @@
 -- A search that is opened follows the system from the first settling on.
-use Rattle.std.proofs.Common.{Vec, Global, ◌≡◌, ℕ, ◌+◌, ◌*◌, Bool, true, false, List, [], ◌∷◌, ◌++◌, length, slice_index, vec_len, refl, sym, ap, ◌∙◌, subst, arith, append-nil}
+use Rattle.std.proofs.Common.{Vec, Global, ◌≡◌, ℕ, ◌+◌, Bool, true, false, List, [], ◌∷◌, ◌++◌, length, slice_index, refl, sym, ap, ◌∙◌, subst, arith, append-nil}
 use Rattle.std.proofs.lemmas.List.FromFn.{map-range_with_len_more}
 use Rattle.frames.specs.Frames.{cells}
 use Rattle.rules.specs.declared.rule.Rule.{Rule}
@@ -7,26 +7,24 @@ use Rattle.rules.specs.Answers.{answer}
 use Rattle.rolls.specs.Rolls.{Surface}
 use Rattle.rolls.specs.Laws.{Orders}
 use Rattle.codes.specs.Tables.{code_at, code_in}
-use Rattle.classes.specs.Asked.{asked_after, torn_among}
-use Rattle.classes.specs.Classed.{class_count, numbers_in}
-use Rattle.classes.specs.Joins.{TiesInside}
+use Rattle.classes.specs.Asked.{torn_among}
+use Rattle.classes.specs.Classed.{numbers_in}
 use Rattle.classes.specs.Needed.{musts_in}
 use Rattle.classes.specs.Numbers.{Numbers}
-use Rattle.gathering.specs.Rendering.{SameInstances, kept}
-use Rattle.gathering.specs.Systems.{instances_of}
+use Rattle.gathering.specs.Systems.{SystemOf, instances_of}
+use Rattle.gathering.specs.declared.system.System.{System}
 use Rattle.codes.specs.declared.value.Value.{Value}
 use Rattle.systems.specs.Systems.{Sys, at, Below}
-use Rattle.systems.specs.Settling.{Settles, Meets, Least, Dead}
-use Rattle.systems.specs.Spaces.{all_instances, classes_by_rank, start_of, system_of}
+use Rattle.systems.specs.Settling.{Settles, Least, Dead}
+use Rattle.systems.specs.Spaces.{classes_by_rank, start_of, system_of}
 use Rattle.systems.specs.Trails.{Trailed, not_yet, Grows, QuietBut}
 use Rattle.systems.proofs.Base.{never}
 use Rattle.systems.proofs.Spaces.{solutions_right}
 use Rattle.systems.specs.Alike.{Alike}
 use Rattle.systems.proofs.Alike.{alike_turned, proper_alike}
-use Rattle.systems.proofs.Settle.{settles_least, meets_dead}
+use Rattle.systems.proofs.Settle.{settles_least}
 use Rattle.search.specs.declared.standing.Decision.{Decision}
-use Rattle.settling.specs.Boards.{Kept, Serves, held_of, settled_len, trail_len, trail_of, unsettled_of, values_of}
-use Rattle.classes.specs.declared.classes.Classes.{Classes}
+use Rattle.settling.specs.Boards.{Kept, MeetsAt, Serves, held_of, labels_of, settled_len, trail_len, trail_of, unsettled_of, values_of}
 use Rattle.search.specs.Moves.{MayOpen, MaySettle}
 use Rattle.search.specs.Opening.{Searches}
 use Rattle.search.specs.Records.{OnlySearch}
@@ -37,7 +35,7 @@ use Rattle.search.specs.declared.record.Record.{Record}
 use Rattle.search.specs.declared.standing.Standing.{Standing}
 use Rattle.search.specs.declared.standing.Standing.TheVariants.{Contradiction, Find, Told, Choice}
 use Rattle.search.proofs.Decided.{renders_kept}
-use Rattle.search.proofs.Settled.{serves}
+use Rattle.search.proofs.Settled.{met_dead, serves}
 
 -- to settle what is settled comes to what it came to
 least_least : (S : Sys) {ρ τ σ : List Value} → Least S ρ τ → Least S τ σ → Least S ρ σ
@@ -92,11 +90,11 @@ module _ (S : Sys) (r : Record) (torn : Bool) (may : MayOpen r S torn) where
     may_serve = serves may.board (may.whole ∙ whole)
 
     -- a contradiction is met at once
-    pub met_follows : (r' : Record) → Kept r.board r'.board → r'.ranks ≡ r.ranks → r'.decisions ≡ r.decisions → Grows (held_of r.board) (held_of r'.board) → r'.standing ≡ r.standing → Meets S (values_of r.board) → Follows r' S
+    pub met_follows : (r' : Record) → Kept r.board r'.board → r'.ranks ≡ r.ranks → r'.decisions ≡ r.decisions → Grows (held_of r.board) (held_of r'.board) → r'.standing ≡ r.standing → MeetsAt S (values_of r.board) (values_of r'.board) → Follows r' S
     met_follows r' kept ranks decisions grows same m =
         opened r' kept ranks decisions grows
         (λ e. never (cc (e, ap is_contradiction (same ∙ may.standing))))
-        (subst (StandsAs S S.start (values_of r'.board)) (sym (same ∙ may.standing)) (subst (Dead S) may.start (meets_dead S m)))
+        (subst (StandsAs S S.start (values_of r'.board)) (sym (same ∙ may.standing)) (subst (Dead S) may.start (met_dead m)))
 
     module _ (b : Board) (kept : Kept r.board b) (all : settled_len b ≡ trail_len b) (s : Settles S (values_of r.board) (values_of b)) where
       least : Least S S.start (values_of b)
@@ -127,7 +125,7 @@ unfolding classes_by_rank
 by_rank_more classes cell n = map-range_with_len_more (λ k. slice_index classes (cell k)) 0 n n (omega arith)
 
 -- ---- what the space, the order and the rule say
-module _ (s : Surface) (rule : Rule) (cell rank : ℕ → ℕ) (orders : Orders (cells s.frame) cell rank) (inside : TiesInside s) (r : Record) where
+module _ (s : Surface) (rule : Rule) (cell rank : ℕ → ℕ) (orders : Orders (cells s.frame) cell rank) (r : Record) (its : SystemOf s r.board.system) where
   -- the system that the space, the order and the rule say, and the one of the instances that are kept
   abbrev pub said : Sys
   said = system_of s rule cell
@@ -135,61 +133,47 @@ module _ (s : Surface) (rule : Rule) (cell rank : ℕ → ℕ) (orders : Orders 
   abbrev pub S : Sys
   S = record { rule = said.rule; instances = instances_of r.board.system; start = said.start; torn = said.torn; order = said.order }
 
-  module _ (numbers : kept r.classes ≡ numbers_in s) (musts : r.classes.musts.items ≡ asked_after s.tie (cells s.frame) r.classes.labels.items (vec_len r.classes.lowest) (s.rows * cells s.frame)) where
-    labels_are : r.classes.labels.items ≡ (numbers_in s).classes
-    labels_are = ap (λ (n : Numbers). n.classes) numbers
+  labels_are : labels_of r.board ≡ (numbers_in s).classes
+  labels_are = ap (λ (n : Numbers). n.classes) its.classes
 
-    count_is : vec_len r.classes.lowest ≡ class_count s
-    count_is = omega (arith, ap (λ (n : Numbers). length n.lowest) numbers, r.classes.lowest.ok.0)
+  alike : Alike S said
+  alike = record { rule = refl; start = refl; torn = refl; order = refl; forth = its.instances.0; back = its.instances.1 }
 
-    musts_are : r.classes.musts.items ≡ musts_in s
-    musts_are =
-        musts
-        ∙ ap (λ (labels : List ℕ). asked_after s.tie (cells s.frame) labels (vec_len r.classes.lowest) (s.rows * cells s.frame)) labels_are
-        ∙ ap (λ (n : ℕ). asked_after s.tie (cells s.frame) (numbers_in s).classes n (s.rows * cells s.frame)) count_is
+  module _ (table : (n : ℕ) → code_in r.board.table n ≡ code_at (answer rule) n)
+      (ranks : r.ranks.items ≡ classes_by_rank (labels_of r.board) cell (cells s.frame))
+      (values : values_of r.board ≡ start_of r.board.system.classes.musts.items)
+      (unset : trail_of r.board ≡ []) (unsettled : settled_len r.board ≡ 0) (undecided : r.decisions.items ≡ []) (standing : r.standing ≡ Contradiction) where
+    values_are : values_of r.board ≡ start_of (musts_in s)
+    values_are = values ∙ ap start_of its.musts
 
-    module _ (table : (n : ℕ) → code_in r.board.table n ≡ code_at (answer rule) n)
-        (rendered : SameInstances (instances_of r.board.system) (all_instances s (kept r.classes)))
-        (ranks : r.ranks.items ≡ classes_by_rank r.classes.labels.items cell (cells s.frame))
-        (values : values_of r.board ≡ start_of r.classes.musts.items)
-        (unset : trail_of r.board ≡ []) (unsettled : settled_len r.board ≡ 0) (undecided : r.decisions.items ≡ []) (standing : r.standing ≡ Contradiction) where
-      same : SameInstances (instances_of r.board.system) (all_instances s (numbers_in s))
-      same = subst (λ (n : Numbers). SameInstances (instances_of r.board.system) (all_instances s n)) numbers rendered
+    pub may_open : (torn : Bool) → torn ≡ torn_among r.board.system.classes.musts.items → MayOpen r S torn
+    may_open torn t =
+        record {
+          board = record {
+            rule = table;
+            there = λ i m. m;
+            back = λ i m. m;
+            sized = omega (arith, ap length values_are, r.board.sized, r.board.known.values.ok.0);
+            proper = proper_alike said S (alike_turned S said alike) ((solutions_right s rule cell its.inside).proper rank orders);
+          };
+          order = ap (λ (labels : List ℕ). classes_by_rank labels cell (cells s.frame)) (sym labels_are) ∙ sym ranks;
+          whole = ap torn_among (sym its.musts) ∙ sym t;
+          start = values_are;
+          unset = unset;
+          unsettled = unsettled;
+          undecided = undecided;
+          standing = standing;
+        }
 
-      alike : Alike S said
-      alike = record { rule = refl; start = refl; torn = refl; order = refl; forth = same.0; back = same.1 }
-
-      values_are : values_of r.board ≡ start_of (musts_in s)
-      values_are = values ∙ ap start_of musts_are
-
-      pub may_open : (torn : Bool) → torn ≡ torn_among r.classes.musts.items → MayOpen r S torn
-      may_open torn t =
-          record {
-            board = record {
-              rule = table;
-              there = λ i m. m;
-              back = λ i m. m;
-              sized = omega (arith, ap length values_are, r.board.sized, r.board.known.values.ok.0);
-              proper = proper_alike said S (alike_turned S said alike) ((solutions_right s rule cell inside).proper rank orders);
-            };
-            order = ap (λ (labels : List ℕ). classes_by_rank labels cell (cells s.frame)) (sym labels_are) ∙ sym ranks;
-            whole = ap torn_among (sym musts_are) ∙ sym t;
-            start = values_are;
-            unset = unset;
-            unsettled = unsettled;
-            undecided = undecided;
-            standing = standing;
-          }
-
-      pub searches : (torn : Bool) → torn ≡ torn_among r.classes.musts.items → r.frame ≡ s.frame → r.rule ≡ rule →
-          (r' : Record) → OnlySearch r r' → ((S : Sys) → MayOpen r S torn → Follows r' S) → Searches r' s rule cell
-      searches torn t frame same_rule r' kept follows =
-          record {
-            frame = kept.frame ∙ frame;
-            same_rule = kept.rule ∙ same_rule;
-            classes = ap (λ (c : Classes). c.labels.items) kept.classes ∙ labels_are;
-            inside = inside;
-            system = S;
-            alike = alike;
-            follows = follows S (may_open torn t);
-          }
+    pub searches : (torn : Bool) → torn ≡ torn_among r.board.system.classes.musts.items → r.frame ≡ s.frame → r.rule ≡ rule →
+        (r' : Record) → OnlySearch r r' → ((S : Sys) → MayOpen r S torn → Follows r' S) → Searches r' s rule cell
+    searches torn t frame same_rule r' kept follows =
+        record {
+          frame = kept.frame ∙ frame;
+          same_rule = kept.rule ∙ same_rule;
+          classes = ap (λ (y : System). y.classes.labels.items) kept.board.system ∙ labels_are;
+          inside = its.inside;
+          system = S;
+          alike = alike;
+          follows = follows S (may_open torn t);
+        }

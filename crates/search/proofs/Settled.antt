@@ -3,9 +3,9 @@ use Rattle.std.proofs.Common.{◌≡◌, ℕ, ◌<◌, false, List, length, Some
 use Rattle.codes.specs.declared.value.Value.{Value}
 use Rattle.codes.specs.Codes.{is_unknown}
 use Rattle.systems.specs.Systems.{Sys, at}
-use Rattle.systems.specs.Settling.{Settles}
-use Rattle.systems.proofs.Settle.{settles_least, steps_add, steps_long}
-use Rattle.settling.specs.Boards.{Serves, values_of}
+use Rattle.systems.specs.Settling.{Dead, Settles}
+use Rattle.systems.proofs.Settle.{meets_dead, settles_least, steps_add, steps_long}
+use Rattle.settling.specs.Boards.{MeetsAt, Serves, values_of}
 use Rattle.search.specs.Moves.{MaySettle}
 use Rattle.histories.proofs.Deciding.{known_still}
 use Rattle.search.specs.declared.standing.Standing.TheVariants.{Find, Choice}
@@ -18,6 +18,10 @@ use Rattle.search.proofs.Ranks.{first_of_all, none_full, known_false, is_unknown
 -- a board that renders a system serves it where no class is torn
 pub serves : {b : Board} {S : Sys} → Renders b S → S.torn ≡ false → Serves b S
 serves r whole = record { rule = r.rule; there = r.there; back = r.back; sized = r.sized; proper = r.proper; whole = whole }
+
+-- where settling met a contradiction there are no closed values above those that it began with
+pub met_dead : {S : Sys} {ρ σ : List Value} → MeetsAt S ρ σ → Dead S ρ
+met_dead {S} {σ = σ} m = meets_dead S (record { last = σ; steps = m.steps; contra = m.contra })
 
 -- there is a value for each class of the system
 pub values_long : {b : Board} {S : Sys} → Renders b S → length (values_of b) ≡ length S.start

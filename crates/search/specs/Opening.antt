@@ -9,7 +9,7 @@ use Rattle.classes.specs.Joins.{TiesInside}
 use Rattle.systems.specs.Alike.{Alike}
 use Rattle.systems.specs.Spaces.{system_of}
 use Rattle.systems.specs.Systems.{Sys}
-use Rattle.settling.specs.Boards.{values_of}
+use Rattle.settling.specs.Boards.{labels_of, values_of}
 use Rattle.search.specs.Stacks.{find_in}
 use Rattle.search.specs.Standings.{Follows}
 use Rattle.search.specs.declared.record.Record.{Record}
@@ -18,7 +18,7 @@ use Rattle.search.specs.declared.record.Record.{Record}
 pub record Searches (r : Record) (s : Surface) (rule : Rule) (cell : ℕ → ℕ) : Type 0 where
   pub frame : r.frame ≡ s.frame
   pub same_rule : r.rule ≡ rule
-  pub classes : r.classes.labels.items ≡ (numbers_in s).classes
+  pub classes : labels_of r.board ≡ (numbers_in s).classes
   -- the cells that ties name exist
   pub inside : TiesInside s
   pub system : Sys
@@ -27,7 +27,7 @@ pub record Searches (r : Record) (s : Surface) (rule : Rule) (cell : ℕ → ℕ
 
 -- the cells of the find where all classes are known
 abbrev pub found_cells : Record → List Bool
-found_cells r = map (λ class. slice_index_or (find_in (values_of r.board)) class false) r.classes.labels.items
+found_cells r = map (λ class. slice_index_or (find_in (values_of r.board)) class false) (labels_of r.board)
 
 -- the text of its first generation
 abbrev pub found_text : Record → List ℕ

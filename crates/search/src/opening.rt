@@ -13,7 +13,7 @@ ghost use Rattle.search.specs.Records.{OnlySearch};
 
 use crate::record::Record;
 use crate::standing::Standing;
-use classes::{Classes, classes_of};
+use classes::Classes;
 use frames::Frame;
 use gathering::System;
 use orders::Order;
@@ -58,16 +58,14 @@ impl Record {
         ensures none_told { IfOk result (λ r. r.tally ≡ 0) }
     {
         let frame = space.frame();
-        let classes = classes_of(heap, space)?;
-        let ranks = ranked_classes(heap, order, &frame, &classes)?;
-        let system = System::of(heap, space, &classes)?;
-        let board = Board::of(heap, system, rule, &classes)?;
+        let system = System::of(heap, space)?;
+        let ranks = ranked_classes(heap, order, &frame, system.classes())?;
+        let torn = system.classes().torn();
+        let board = Board::of(heap, system, rule)?;
         let decisions = Vec::with_capacity(heap, ranks.len())?;
-        let torn = classes.torn();
         let mut record = Record {
             frame,
             rule: *rule,
-            classes,
             ranks,
             board,
             decisions,

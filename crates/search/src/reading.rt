@@ -14,7 +14,7 @@ impl Record {
         requires { cell < cells self.now.frame }
         ensures { result ≡ slice_index_or (found_cells self.now) cell false }
     {
-        match self.classes.class_of(cell) {
+        match self.board.classes().class_of(cell) {
             Some(class) => matches!(self.board.value(class), Value::On),
             None => false,
         }

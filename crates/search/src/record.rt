@@ -1,10 +1,10 @@
-ghost use Rattle.std.specs.Prelude.{◌≡◌, ℕ, ◌<◌, ◌≤◌, vec_len, vec_capacity, slice_index_or};
+ghost use Rattle.std.specs.Prelude.{◌≡◌, ℕ, ◌<◌, ◌≤◌, length, vec_len, vec_capacity, slice_index_or};
 ghost use Rattle.frames.specs.Frames.{cells};
+ghost use Rattle.settling.specs.Boards.{labels_of};
 ghost use Rattle.search.specs.Decided.{first};
 ghost use Rattle.search.specs.declared.standing.Standing.TheVariants.{Choice};
 
 use crate::standing::{Decision, Standing};
-use classes::Classes;
 use frames::Frame;
 use rules::Rule;
 use settling::Board;
@@ -14,9 +14,9 @@ use settling::Board;
 pub struct Record {
     pub(crate) frame: Frame,
     pub(crate) rule: Rule,
-    pub(crate) classes: Classes,
     // the class of the cell of each rank
     pub(crate) ranks: Vec<u16>,
+    // the system of the space, with its classes, under the rule, and what is known
     pub(crate) board: Board,
     // the standing decisions, with room for one of each rank
     pub(crate) decisions: Vec<Decision>,
@@ -25,7 +25,7 @@ pub struct Record {
     // a later go answered done
     pub(crate) found: bool,
     pub(crate) tally: u64,
-    ghost classed: { vec_len classes.labels ≡ cells frame },
+    ghost classed: { length (labels_of board) ≡ cells frame },
     ghost reserved: { vec_len ranks ≤ vec_capacity decisions },
     ghost rising: { (j : ℕ) → j < vec_len decisions → j ≤ (slice_index_or decisions.items j first).rank },
     ghost ranked: { (j : ℕ) → j < vec_len decisions → (slice_index_or decisions.items j first).rank < vec_len ranks },

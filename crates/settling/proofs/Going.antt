@@ -5,7 +5,7 @@ use Rattle.std.proofs.lemmas.List.{drop_at, drop-append-le, drop_more, drop_all}
 use Rattle.codes.specs.declared.value.Value.{Value}
 use Rattle.systems.specs.declared.instance.Instance.{Instance}
 use Rattle.systems.specs.Systems.{In, Sys, at, code_for, Mentions, Proper}
-use Rattle.systems.specs.Settling.{Steps, stop, no_fit, Settles, Meets}
+use Rattle.systems.specs.Settling.{Steps, stop, no_fit, Settles}
 use Rattle.systems.specs.Trails.{Held, hold_by, Grows, QuietUnless, QuietBut}
 use Rattle.systems.proofs.Base.{get_d_in}
 use Rattle.systems.proofs.Gathered.{in_right}
@@ -17,7 +17,7 @@ use Rattle.gathering.specs.Bounds.{nowhere}
 use Rattle.gathering.specs.Rendering.{AllTouching}
 use Rattle.gathering.specs.Systems.{class_count, instances_of}
 use Rattle.gathering.specs.declared.system.System.{System}
-use Rattle.settling.specs.Boards.{Kept, Serves}
+use Rattle.settling.specs.Boards.{Kept, MeetsAt, Serves}
 use Rattle.settling.specs.Knowing.{Around, Through}
 use Rattle.settling.specs.declared.board.Board.{Board}
 
@@ -95,8 +95,8 @@ module _ (S : Sys) (proper : Proper S) (f : ℕ → Instance) (k : ℕ) (i : Ins
         ];
       }
 
-  pub seen_refused : code_for S.rule (at mid.values) i ≡ 1 → Meets S old.values
-  seen_refused e = record { last = mid.values; steps = s.steps; contra = no_fit inside e }
+  pub seen_refused : (new : Held) → code_for S.rule (at mid.values) i ≡ 1 → new ≡ mid → MeetsAt S old.values new.values
+  seen_refused new e q = subst (λ (h : Held). MeetsAt S old.values h.values) (sym q) (record { steps = s.steps; contra = no_fit inside e })
 
 -- ---- all instances, and all that name a class
 pub seen_all : (S : Sys) (is : List Instance) (k : ℕ) (old new : Held) → ((i : Instance) → In i S.instances → In i is) → length is ≤ k → Seen S (numbered is) k old new → Through S old new
@@ -142,8 +142,14 @@ pub all_settled : (S : Sys) (ρ : List Value) (h : Held) (k : ℕ) → S.torn �
 all_settled S ρ h k t s l q = record { steps = s; closed = trail_laws.none_left S (at h.values) t (subst (QuietBut S (at h.values)) (drop_all k h.trail l) q) }
 
 -- a contradiction later on is one from the start
-pub meets_then : (S : Sys) (ρ σ : List Value) → Steps S ρ σ → Meets S σ → Meets S ρ
-meets_then S ρ σ s m = record { last = m.last; steps = steps_then s m.steps; contra = m.contra }
+pub meets_then : (S : Sys) (ρ σ τ : List Value) → Steps S ρ σ → MeetsAt S σ τ → MeetsAt S ρ τ
+meets_then S ρ σ τ s m = record { steps = steps_then s m.steps; contra = m.contra }
+
+-- where more is set, nothing but the instances that name what is not settled, or was set since, can have become loud
+pub quiet_grown : (S : Sys) (old new : Held) (k : ℕ) → k ≤ length old.trail → Grows old new → QuietBut S (at old.values) (drop k old.trail) → QuietBut S (at new.values) (drop k new.trail)
+quiet_grown S old new k l g q =
+    let left : drop k new.trail ≡ drop k old.trail ++ g.added = ap (drop k) g.trail ∙ drop-append-le k old.trail g.added l in
+    subst (QuietBut S (at new.values)) (sym left) (λ i m. trail_laws.still S.rule old.values new.values (drop k old.trail) g.added i (q i m) g.values)
 
 pub settles_then : (S : Sys) (ρ σ τ : List Value) → Steps S ρ σ → Settles S σ τ → Settles S ρ τ
 settles_then S ρ σ τ s m = record { steps = steps_then s m.steps; closed = m.closed }

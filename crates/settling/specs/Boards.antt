@@ -3,7 +3,8 @@ use Rattle.std.specs.Prelude.{◌≡◌, ℕ, ◌+◌, false, List, length, drop
 use Rattle.codes.specs.declared.value.Value.{Value}
 use Rattle.codes.specs.Tables.{code_at, code_in}
 use Rattle.systems.specs.declared.instance.Instance.{Instance}
-use Rattle.systems.specs.Systems.{In, Sys, Proper}
+use Rattle.systems.specs.Systems.{In, Sys, Proper, at}
+use Rattle.systems.specs.Settling.{Contra, Steps}
 use Rattle.systems.specs.Trails.{Held}
 use Rattle.gathering.specs.Systems.{class_count, instances_of}
 use Rattle.settling.specs.declared.board.Board.{Board}
@@ -33,6 +34,10 @@ settled_len b = b.known.settled
 abbrev pub unsettled_of : Board → List ℕ
 unsettled_of b = drop (settled_len b) (trail_of b)
 
+-- the class of each cell
+abbrev pub labels_of : Board → List ℕ
+labels_of b = vec_items b.system.classes.labels
+
 -- the same system under the same rule
 pub record Kept (old new : Board) : Type 0 where
   pub system : new.system ≡ old.system
@@ -46,3 +51,8 @@ pub record Serves (b : Board) (S : Sys) : Type 0 where
   pub sized : length S.start ≡ class_count b.system + 1
   pub proper : Proper S
   pub whole : S.torn ≡ false
+
+-- settling from ρ met a contradiction at σ: forcing steps led there, setting no class that nothing forces, and there a class is torn or no pair fits around an instance
+pub record MeetsAt (S : Sys) (ρ σ : List Value) : Type 0 where
+  pub steps : Steps S ρ σ
+  pub contra : Contra S (at σ)

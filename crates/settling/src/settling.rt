@@ -1,18 +1,26 @@
-ghost use Rattle.std.specs.Prelude.{◌≡◌, ℕ, ◌+◌, ◌<◌, ◌≤◌, List, [], ◌++◌, length, min, MatchResult, OnOk};
+ghost use Rattle.std.specs.Prelude.{◌≡◌, ℕ, ◌+◌, ◌<◌, ◌≤◌, List, [], ◌++◌, length, min, take, drop, MatchResult, OnOk, OnErr};
 ghost use Rattle.codes.specs.Codes.{is_unknown};
 ghost use Rattle.codes.specs.declared.value.Value.{Value};
 ghost use Rattle.gathering.specs.Systems.{class_count};
-ghost use Rattle.systems.specs.Settling.{Meets, Settles};
+ghost use Rattle.systems.specs.Settling.{Settles};
 ghost use Rattle.systems.specs.Systems.{Sys, at};
 ghost use Rattle.systems.specs.Trails.{Grows, QuietBut, Trailed, hold};
-ghost use Rattle.settling.specs.Boards.{Kept, Serves, held_of, settled_len, trail_len, trail_of, unsettled_of, values_of};
-ghost use Rattle.settling.specs.Knowing.{Around, Grown, Through};
+ghost use Rattle.settling.specs.Boards.{Kept, MeetsAt, Serves, held_of, settled_len, trail_len, trail_of, unsettled_of, values_of};
+ghost use Rattle.settling.specs.Knowing.{Around, Grown, Through, put_back};
 
 use crate::board::Board;
 use crate::contradiction::Contradiction;
+use classes::Classes;
 use codes::Value;
 
 impl Board {
+    /// The classes of the space.
+    pub fn classes(&self) -> &Classes
+        ensures { result.now ≡ self.now.system.classes }
+    {
+        self.system.classes()
+    }
+
     // What is known of a class; nothing is known of one that there is not.
     pub fn value(&self, class: u16) -> Value
         ensures { result ≡ at (values_of self.now) class }
@@ -51,11 +59,13 @@ impl Board {
         }
     }
 
-    // Puts back every class that was set since the trail had the length `mark`.
+    /// Puts back every class that was set since the trail had the length `mark`; nothing where it is no
+    /// longer.
     pub fn undo(&mut self, mark: usize)
         ensures kept { Kept self.old self.new }
-        ensures trail { trail_len self.new ≡ min mark (trail_len self.old) }
+        ensures trail { trail_of self.new ≡ take (min mark (trail_len self.old)) (trail_of self.old) }
         ensures settled { settled_len self.new ≡ min mark (settled_len self.old) }
+        ensures values { values_of self.new ≡ put_back (drop (min mark (trail_len self.old)) (trail_of self.old)) (values_of self.old) }
         ensures back { (σ : List Value) (xs ys : List ℕ) → trail_of self.old ≡ xs ++ ys → length xs ≡ mark → Trailed σ (values_of self.old) ys → (values_of self.new ≡ σ) × (trail_of self.new ≡ xs) }
     {
         self.known.undo(mark);
@@ -65,7 +75,7 @@ impl Board {
     fn examine_around(&mut self, class: u16) -> Result<(), Contradiction>
         ensures kept { Kept self.old self.new }
         ensures grown { Grown self.old.known self.new.known }
-        ensures around { (S : Sys) → Serves self.old S → class < class_count self.old.system → MatchResult result (λ _. Around S class (held_of self.old) (held_of self.new)) (λ _. Meets S (values_of self.old)) }
+        ensures around { (S : Sys) → Serves self.old S → class < class_count self.old.system → MatchResult result (λ _. Around S class (held_of self.old) (held_of self.new)) (λ _. MeetsAt S (values_of self.old) (values_of self.new)) }
     {
         let Board {
             system,
@@ -79,15 +89,18 @@ impl Board {
         Ok(())
     }
 
-    // Settles: looks around each class of the trail that was not settled yet, until nothing more is
-    // forced.
+    /// Settles: looks around each class of the trail that was not settled yet, until nothing more is
+    /// forced, or until a contradiction is met. Then too only what is forced is set, and what is known
+    /// stays as the contradiction left it.
     pub fn settle(&mut self) -> Result<(), Contradiction>
         ensures kept { Kept self.old self.new }
         ensures longer { trail_len self.old ≤ trail_len self.new }
         ensures grows { Grows (held_of self.old) (held_of self.new) }
         ensures settled { OnOk result (settled_len self.new ≡ trail_len self.new) }
         ensures onward { settled_len self.old ≤ settled_len self.new }
-        ensures settles { (S : Sys) → Serves self.old S → QuietBut S (at (values_of self.old)) (unsettled_of self.old) → MatchResult result (λ _. Settles S (values_of self.old) (values_of self.new)) (λ _. Meets S (values_of self.old)) }
+        ensures settles { (S : Sys) → Serves self.old S → QuietBut S (at (values_of self.old)) (unsettled_of self.old) → OnOk result (Settles S (values_of self.old) (values_of self.new)) }
+        ensures meets { (S : Sys) → Serves self.old S → OnErr result (MeetsAt S (values_of self.old) (values_of self.new)) }
+        ensures quiet { (S : Sys) → Serves self.old S → QuietBut S (at (values_of self.old)) (unsettled_of self.old) → QuietBut S (at (values_of self.new)) (unsettled_of self.new) }
     {
         // the trail grows while it is gone through, so no iterator
         while let Some(class) = self.known.unsettled() {
@@ -101,7 +114,7 @@ impl Board {
     fn examine_all(&mut self) -> Result<(), Contradiction>
         ensures kept { Kept self.old self.new }
         ensures grown { Grown self.old.known self.new.known }
-        ensures through { (S : Sys) → Serves self.old S → MatchResult result (λ _. Through S (held_of self.old) (held_of self.new)) (λ _. Meets S (values_of self.old)) }
+        ensures through { (S : Sys) → Serves self.old S → MatchResult result (λ _. Through S (held_of self.old) (held_of self.new)) (λ _. MeetsAt S (values_of self.old) (values_of self.new)) }
     {
         let Board {
             system,
@@ -114,14 +127,15 @@ impl Board {
         Ok(())
     }
 
-    // Looks at every instance once, and then settles.
+    /// Looks at every instance once, and then settles; refused where a contradiction is met, as `settle`.
     pub fn settle_all(&mut self) -> Result<(), Contradiction>
         ensures kept { Kept self.old self.new }
         ensures longer { trail_len self.old ≤ trail_len self.new }
         ensures grows { Grows (held_of self.old) (held_of self.new) }
         ensures settled { OnOk result (settled_len self.new ≡ trail_len self.new) }
         ensures onward { settled_len self.old ≤ settled_len self.new }
-        ensures settles { (S : Sys) → Serves self.old S → trail_of self.old ≡ [] → MatchResult result (λ _. Settles S (values_of self.old) (values_of self.new)) (λ _. Meets S (values_of self.old)) }
+        ensures settles { (S : Sys) → Serves self.old S → trail_of self.old ≡ [] → OnOk result (Settles S (values_of self.old) (values_of self.new)) }
+        ensures meets { (S : Sys) → Serves self.old S → OnErr result (MeetsAt S (values_of self.old) (values_of self.new)) }
     {
         self.examine_all()?;
         self.settle()

@@ -4,7 +4,6 @@ ghost use Rattle.rules.specs.Answers.{answer};
 ghost use Rattle.codes.specs.Tables.{code_at, code_in};
 ghost use Rattle.classes.specs.Asked.{unasked};
 ghost use Rattle.systems.specs.Spaces.{first_value, start_of};
-ghost use Rattle.gathering.specs.Systems.{class_count};
 ghost use Rattle.settling.specs.Boards.{settled_len, trail_of, values_of};
 
 use crate::board::Board;
@@ -30,35 +29,29 @@ fn first_value(musts: Musts) -> Value
 }
 
 // What is known of each class from the start, and of nothing, which is off.
-fn first_values(heap: Global, classes: &Classes, count: usize) -> Result<Vec<Value>, AllocError>
-    requires { count ≤ 4096 }
-    ensures len { IfOk result (λ v. vec_len v ≡ count + 1) }
-    ensures values { IfOk result (λ v. v.items ≡ map (λ class. first_value (slice_index_or classes.now.musts.items class unasked)) (range_with_len 0 count) ++ Value.Off ∷ []) }
+fn first_values(heap: Global, classes: &Classes) -> Result<Vec<Value>, AllocError>
+    ensures len { IfOk result (λ v. vec_len v ≡ vec_len classes.now.lowest + 1) }
+    ensures values { IfOk result (λ v. v.items ≡ map (λ class. first_value (slice_index_or classes.now.musts.items class unasked)) (range_with_len 0 (vec_len classes.now.lowest)) ++ Value.Off ∷ []) }
 {
-    (0..count)
+    (0..classes.count())
         .map(|class| first_value(classes.musts(class)))
         .chain(iter::once(Value::Off))
         .collect(heap)
 }
 
 impl Board {
-    // The board of a system under a rule, with what the classes' musts say and nothing settled yet.
-    pub fn of(
-        heap: Global,
-        system: System,
-        rule: &Rule,
-        classes: &Classes,
-    ) -> Result<Board, AllocError>
+    /// The board of a system under a rule, with what the rows ask of the system's classes known and
+    /// nothing settled yet. Refused only for want of memory.
+    pub fn of(heap: Global, system: System, rule: &Rule) -> Result<Board, AllocError>
         ensures system { IfOk result (λ b. b.system ≡ system) }
         ensures table { IfOk result (λ b. (n : ℕ) → code_in b.table n ≡ code_at (answer rule.now) n) }
         ensures trail { IfOk result (λ b. trail_of b ≡ []) }
         ensures settled { IfOk result (λ b. settled_len b ≡ 0) }
-        ensures values { IfOk result (λ b. class_count system ≡ vec_len classes.now.lowest → values_of b ≡ start_of classes.now.musts.items) }
+        ensures values { IfOk result (λ b. values_of b ≡ start_of system.classes.musts.items) }
     {
-        let count = system.classes();
         let known = Known {
-            values: first_values(heap, classes, count)?,
-            trail: Vec::with_capacity(heap, count + 1)?,
+            values: first_values(heap, system.classes())?,
+            trail: Vec::with_capacity(heap, system.count() + 1)?,
             settled: 0,
         };
         Ok(Board {

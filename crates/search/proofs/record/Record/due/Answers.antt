@@ -12,7 +12,7 @@ returns-then-is_none c =
     let none : c.last_off.result ≡ None = search rules in
     record {
       steps = refl;
-      same = record { frame = refl; rule = refl; classes = refl; ranks = refl };
+      same = record { frame = refl; rule = refl; board = record { system = refl; table = refl }; ranks = refl };
       found = refl;
       tally = refl;
       onward = λ e. never (cc e);

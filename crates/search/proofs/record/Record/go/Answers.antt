@@ -8,7 +8,7 @@ use Rattle.search.proofs.record.Record.go.Goals as goal
 pub loop-taken-init : goal.loop-taken-init
 loop-taken-init c =
     record {
-      same = record { frame = refl; rule = refl; classes = refl; ranks = refl };
+      same = record { frame = refl; rule = refl; board = record { system = refl; table = refl }; ranks = refl };
       found = refl;
       tally = refl;
       onward = omega arith;

@@ -1,4 +1,5 @@
-use Rattle.std.proofs.Common.{sym, ap, ◌∙◌, arith}
+use Rattle.std.proofs.Common.{sym, slice_index, ap, ◌∙◌, arith}
+use Rattle.classes.specs.declared.classes.Classes.{Classes}
 use Rattle.search.specs.Stacks.{is_on}
 use Rattle.search.proofs.Finds.{cell_on}
 use Rattle.search.proofs.record.Record.is_on.Goals as goal
@@ -7,4 +8,4 @@ pub returns-in-On : goal.returns-in-On
 returns-in-On c =
     let old = c.args.self.now in
     ap is_on (sym c.in-On.is ∙ c.value.ensures)
-    ∙ cell_on old c.args.cell c.in-Some.class c.in-Some.ensures.0 (omega (arith, c.requires, old.classed, old.classes.labels.ok.0))
+    ∙ cell_on old c.args.cell c.in-Some.class (c.in-Some.ensures.0 ∙ ap (λ (k : Classes). slice_index k.labels.items c.args.cell) c.classes.ensures) (omega (arith, c.requires, old.classed))

@@ -21,5 +21,5 @@ returns-in-Ok-clause-follows c S may =
 pub returns-in_default-clause-follows : goal.returns-in_default-clause-follows
 returns-in_default-clause-follows c S may =
     let old = c.args.self.now in
-    let meets = c.in_default.ensures.settles S (may_serve S old c.args.torn may c.if-torn.false) may.unset in
+    let meets = c.in_default.ensures.meets S (may_serve S old c.args.torn may c.if-torn.false) in
     met_follows S old c.args.torn may c.if-torn.false _ c.settle_all.ensures.kept refl refl c.settle_all.ensures.grows refl meets

@@ -22,9 +22,10 @@ returns-in_err-examine-clause-through c = λ S s.
     let is = c.instances-instance-items.result.now in
     let k = c.loop-instance.instance-index in
     let here = s.back (get_or is k nowhere) (subst (In (get_or is k nowhere)) c.instances-instance-items.ensures.value (in_get_d is k nowhere c.loop-instance-test.true)) in
+    let looked = c.in_err-examine.ensures.looked S.rule s.rule in
     MatchResult-from_err c.from_residual.result _ _ c.from_residual.ensures.0
     (λ y. seen_refused S s.proper (numbered is) k (get_or is k nowhere) (numbered_is is k) (held_of was) (held c.loop-instance.known)
-    (omega (arith, s.sized, was.sized, was.known.values.ok.0)) here (c.loop-instance.invariant.seen S s) (c.in_err-examine.ensures.looked S.rule s.rule).contradiction)
+    (omega (arith, s.sized, was.sized, was.known.values.ok.0)) here (c.loop-instance.invariant.seen S s) (held c.examine.new.self) looked.contradiction looked.same)
 
 pub loop-instance-preserved : goal.loop-instance-preserved
 loop-instance-preserved c =

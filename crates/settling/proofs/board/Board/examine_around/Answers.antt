@@ -26,9 +26,10 @@ returns-in_err-examine-clause-around c = λ S s l.
     let n = c.from.result in
     let within : n < length is = omega (arith, c.from.ensures, c.touching-number-items.ensures.within k c.loop-number-test.true, ap length c.instances-instances.ensures.value) in
     let here = s.back (get_or is n nowhere) (subst (In (get_or is n nowhere)) c.instances-instances.ensures.value (in_get_d is n nowhere within)) in
+    let looked = c.in_err-examine.ensures.looked S.rule s.rule in
     MatchResult-from_err c.from_residual.result _ _ c.from_residual.ensures.0
     (λ y. seen_refused S s.proper (picked is numbers) k (get_or is n nowhere) (picked_is is numbers k n c.from.ensures) (held_of was) (held c.loop-number.known)
-    (omega (arith, s.sized, was.sized, was.known.values.ok.0)) here (c.loop-number.invariant.seen S s) (c.in_err-examine.ensures.looked S.rule s.rule).contradiction)
+    (omega (arith, s.sized, was.sized, was.known.values.ok.0)) here (c.loop-number.invariant.seen S s) (held c.examine.new.self) looked.contradiction looked.same)
 
 pub loop-number-preserved : goal.loop-number-preserved
 loop-number-preserved c =

@@ -11,7 +11,7 @@ invariant-loop-class l = record {
   longer : trail_len l.initial.self ≤ trail_len l.self;
   grows : Grows (held_of l.initial.self) (held_of l.self);
   onward : settled_len l.initial.self ≤ settled_len l.self;
-  steps : (S : Sys) → Serves l.initial.self S → QuietBut S (at (values_of l.initial.self)) (unsettled_of l.initial.self) → Steps S (values_of l.initial.self) (values_of l.self);
+  steps : (S : Sys) → Serves l.initial.self S → Steps S (values_of l.initial.self) (values_of l.self);
   quiet : (S : Sys) → Serves l.initial.self S → QuietBut S (at (values_of l.initial.self)) (unsettled_of l.initial.self) → QuietBut S (at (values_of l.self)) (unsettled_of l.self);
 }
 

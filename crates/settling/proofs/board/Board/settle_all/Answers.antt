@@ -1,5 +1,5 @@
 use Rattle.std.proofs.Common.{◌≡◌, ℕ, length, drop, ap, subst, arith}
-use Rattle.std.proofs.lemmas.Result.{MatchResult-weaker}
+use Rattle.std.proofs.lemmas.Result.{on_ok_weaker, on_err_weaker}
 use Rattle.systems.specs.Systems.{at}
 use Rattle.systems.specs.Trails.{QuietBut}
 use Rattle.systems.proofs.Trails.{grows_then}
@@ -17,6 +17,13 @@ returns-clause-settles c = λ S s e.
     let through = c.in_ok-examine_all.ensures.through S s in
     let none : length (trail_of was) ≡ settled_len now = omega (arith, ap length e, c.examine_all.ensures.grown.settled, was.known.reached, was.known.trail.ok.0) in
     let quiet = subst (λ (n : ℕ). QuietBut S (at (values_of now)) (drop n (trail_of now))) none through.quiet in
-    MatchResult-weaker c.settle.result (c.settle.ensures.settles S (serves_kept was now S c.examine_all.ensures.kept s) quiet)
-    (λ x t. settles_then S (values_of was) (values_of now) (values_of c.settle.new.self) through.steps t)
-    (λ x t. meets_then S (values_of was) (values_of now) through.steps t)
+    on_ok_weaker c.settle.result (settles_then S (values_of was) (values_of now) (values_of c.settle.new.self) through.steps)
+    (c.settle.ensures.settles S (serves_kept was now S c.examine_all.ensures.kept s) quiet)
+
+pub returns-clause-meets : goal.returns-clause-meets
+returns-clause-meets c = λ S s.
+    let was = c.args.self.now in
+    let now = c.examine_all.new.self in
+    let through = c.in_ok-examine_all.ensures.through S s in
+    on_err_weaker c.settle.result (meets_then S (values_of was) (values_of now) (values_of c.settle.new.self) through.steps)
+    (c.settle.ensures.meets S (serves_kept was now S c.examine_all.ensures.kept s))
