@@ -1,18 +1,14 @@
 -- Going through a line word by word: what is read was written so, and what is written so is read.
-use Rattle.std.proofs.Common.{◌≡◌, ℕ, ◌<◌, true, false, List, [], ◌∷◌, ◌++◌, length, get_or, take, drop, Some, None, Option, sym, refl, ap, ◌∙◌, ⊎_elim, arith, length-append}
+use Rattle.std.proofs.Common.{◌≡◌, ℕ, ◌<◌, true, List, [], ◌∷◌, ◌++◌, length, get_or, take, drop, Some, None, Option, sym, refl, ap, subst, ◌∙◌, ◌-◌, ⊎_elim, arith, length-append}
 use Rattle.std.specs.List.{position_or_len}
 use Rattle.std.proofs.Math.ListN.{get_or-append}
 use Rattle.std.proofs.Math.Seq.{drop-append_seam, take-append_seam}
 use Rattle.std.proofs.lemmas.Bool.{cases_Bool, cond-false, cond-true}
-use Rattle.std.proofs.lemmas.List.{take-append-drop}
-use Rattle.std.proofs.lemmas.List.Sums.{position_or_len_is}
+use Rattle.std.proofs.lemmas.List.{get_or-drop, get_or-take, length-drop, length-take-le, take-append-drop}
+use Rattle.std.proofs.lemmas.List.Sums.{fails_before_first, passes_at_first, position_or_len_is, prefix_len-le-length}
 use Rattle.lines.specs.Lines.{blank}
-use Rattle.words.specs.Forms.{Spaced}
-use Rattle.words.specs.Words.{Got, and_then, cut, given, next_word}
-
--- no blank stands in it
-abbrev pub Solid : List ℕ → Type 0
-Solid w = (k : ℕ) → k < length w → blank (get_or w k 0) ≡ false
+use Rattle.words.specs.Forms.{NoWord, Solid, Spaced, WordNext}
+use Rattle.words.specs.Words.{Got, and_then, cut, given, left_of, next_word, word_left}
 
 at_seam : (w more : List ℕ) → get_or (w ++ more) (length w) 0 ≡ get_or more 0 0
 at_seam [] more = refl
@@ -41,6 +37,44 @@ word_only (b ∷ bs) w more e =
     (λ is. let some : Some read ≡ Some wanted = sym (ap cut (cond-true (blank b) (Some bs) None is)) ∙ e in let same : read ≡ wanted = cc in (b, is, ap (λ l. b ∷ l) (sym (take-append-drop n bs) ∙ ap (λ (g : Got (List ℕ)). g.value ++ g.rest) same)))
     (λ no. let none : None ≡ Some wanted = sym (ap cut (cond-false (blank b) (Some bs) None no)) ∙ e in absurd (cc))
     (cases_Bool (blank b))
+
+-- a word that comes next is given and passed
+pub word_read : (w more line : List ℕ) → WordNext w more line → (next_word line ≡ Some (record { value = w; rest = more })) × (word_left line ≡ more)
+word_read w more line n =
+    let e = ap next_word n.whole ∙ word_front n.mark w more n.is_blank n.solid n.ends in
+    (e, ap (left_of line) e)
+
+-- the word up to the next blank
+word_cut : (b : ℕ) (bs : List ℕ) → blank b ≡ true → WordNext (take (position_or_len blank bs) bs) (drop (position_or_len blank bs) bs) (b ∷ bs)
+word_cut b bs is =
+    let n = position_or_len blank bs in
+    let long : length (take n bs) ≡ n = length-take-le n bs (prefix_len-le-length _ bs) in
+    let left : length (drop n bs) ≡ length bs - n = length-drop n bs in
+    record {
+      mark = b;
+      is_blank = is;
+      whole = ap (λ l. b ∷ l) (sym (take-append-drop n bs));
+      solid = λ k h. ap blank (get_or-take n bs k 0 (omega (arith, h, long))) ∙ fails_before_first blank bs k 0 (omega (arith, h, long));
+      ends = λ h. ap blank (get_or-drop n bs 0 0) ∙ ap (λ i. blank (get_or bs i 0)) (omega arith) ∙ passes_at_first blank bs 0 (omega (arith, h, left));
+    }
+
+pub word_was : (w more line : List ℕ) → next_word line ≡ Some (record { value = w; rest = more }) → WordNext w more line
+word_was w more [] e = absurd (cc)
+word_was w more (b ∷ bs) e =
+    let n = position_or_len blank bs in
+    let read : Got (List ℕ) = record { value = take n bs; rest = drop n bs } in
+    let wanted : Got (List ℕ) = record { value = w; rest = more } in
+    ⊎_elim
+    (λ is. let some : Some read ≡ Some wanted = sym (ap cut (cond-true (blank b) (Some bs) None is)) ∙ e in let same : read ≡ wanted = cc in subst (λ (g : Got (List ℕ)). WordNext g.value g.rest (b ∷ bs)) same (word_cut b bs is))
+    (λ no. let none : None ≡ Some wanted = sym (ap cut (cond-false (blank b) (Some bs) None no)) ∙ e in absurd (cc))
+    (cases_Bool (blank b))
+
+-- and where none comes next nothing is passed
+pub word_missing : (line : List ℕ) → NoWord line → (next_word line ≡ None) × (word_left line ≡ line)
+word_missing [] other = (refl, refl)
+word_missing (b ∷ bs) other =
+    let e : next_word (b ∷ bs) ≡ None = ap cut (cond-false (blank b) (Some bs) None (other (omega arith))) in
+    (e, ap (left_of (b ∷ bs)) e)
 
 -- what a word is read as
 given_is : {A B : Type 0} (p : Option A) (rest : List ℕ) (next : A → List ℕ → Option B) (b : B) → and_then (given p rest) next ≡ Some b → (a : A) × (p ≡ Some a) × (next a rest ≡ Some b)

@@ -60,6 +60,14 @@ cut (Some bytes) = Some (record { value = take (position_or_len blank bytes) byt
 abbrev pub next_word : List ℕ → Option (Got (List ℕ))
 next_word line = cut (after_blank line)
 
+-- what is left of a line once its next word was asked for: what follows that word; the whole line where no word comes next
+abbrev pub left_of : List ℕ → Option (Got (List ℕ)) → List ℕ
+left_of line None = line
+left_of line (Some got) = got.rest
+
+abbrev pub word_left : List ℕ → List ℕ
+word_left line = left_of line (next_word line)
+
 -- the number from 0 to 9,999 whose decimal digits a word is
 unfoldable pub number_of : List ℕ → Option ℕ
 number_of word = cond (nat_le (digits_value 10 word) 9999 && bytes_eq (decimal (digits_value 10 word)) word) (Some (digits_value 10 word)) None

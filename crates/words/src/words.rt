@@ -1,5 +1,5 @@
 ghost use Rattle.std.specs.Prelude.{◌≡◌, ◌==◌, length};
-ghost use Rattle.words.specs.Words.{after_key, given, left, next_number, next_signed, next_word, seen};
+ghost use Rattle.words.specs.Words.{after_key, given, left, next_number, next_signed, next_word, seen, word_left};
 
 use crate::cuts::{after_blank, after_key, word_len};
 use crate::digits::{number_of, signed_of};
@@ -21,9 +21,10 @@ impl<'a> Words<'a> {
         })
     }
 
-    // The next word.
+    // The next word, which is passed. Where no blank comes next there is none, and nothing is passed.
     pub fn word(&mut self) -> Option<&'a [u8]>
-        ensures { given (seen result) self.new.rest.now ≡ next_word self.old.rest.now }
+        ensures value { given (seen result) self.new.rest.now ≡ next_word self.old.rest.now }
+        ensures rest { self.new.rest.now ≡ word_left self.old.rest.now }
     {
         let text = after_blank(self.rest)?;
         let (word, rest) = text.split_at(word_len(text));
@@ -31,16 +32,19 @@ impl<'a> Words<'a> {
         Some(word)
     }
 
-    // The next word, where it is a number from 0 to 9,999 without leading zeros.
+    // The next word, where it is a number from 0 to 9,999 without leading zeros. A word that is none is
+    // passed too.
     pub fn number(&mut self) -> Option<u32>
-        ensures { given result self.new.rest.now ≡ next_number self.old.rest.now }
+        ensures value { given result self.new.rest.now ≡ next_number self.old.rest.now }
+        ensures rest { self.new.rest.now ≡ word_left self.old.rest.now }
     {
         Some(u32::from(number_of(self.word()?)?))
     }
 
     // The same, where a number below 0 has `-` before it.
     pub fn signed(&mut self) -> Option<i32>
-        ensures { given result self.new.rest.now ≡ next_signed self.old.rest.now }
+        ensures value { given result self.new.rest.now ≡ next_signed self.old.rest.now }
+        ensures rest { self.new.rest.now ≡ word_left self.old.rest.now }
     {
         signed_of(self.word()?)
     }
