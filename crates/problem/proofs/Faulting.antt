@@ -42,7 +42,7 @@ unfolding from_fixes
 fixes_stop n s [] f e = absurd (cc)
 fixes_stop n s (l ∷ ls) f e = fixes_at n s l ls f (λ t g d. fixes_stop (n + 1) t ls g d) (fix_line s l) refl e
 
-judge_fixes : (n : ℕ) (s : SpaceSaid) → Judges n (from_fixes n s)
+pub judge_fixes : (n : ℕ) (s : SpaceSaid) → Judges n (from_fixes n s)
 unfolding from_fixes
 judge_fixes n s = record { goes = ([], s, refl); stops = fixes_stop n s }
 
@@ -94,21 +94,25 @@ rule_form : RuleForm (record { births = 0; survivals = 0 }) any_rule
 unfolding any_rule
 rule_form = record { births = omega arith; survivals = omega arith; quiet = refl; whole = (32, refl, refl) }
 
+-- the lines that fix cells, told with a rule and an order
+pub judge_all : (rule : Sets) (order : AnyOrder) (s : SpaceSaid) → Judges 6 (λ ls. with_space rule order (from_fixes 6 s ls))
+judge_all rule order s = told 6 (from_fixes 6 s) (λ t. record { rule = rule; order = order; space = t }) (judge_fixes 6 s)
+
 -- the five lines, from the last to the first
-judge_mirror : (rule : Sets) (frame : Shape) (look : Look) (order : AnyOrder) → Judges 5 (from_mirror rule frame look order)
+pub judge_mirror : (rule : Sets) (frame : Shape) (look : Look) (order : AnyOrder) → Judges 5 (from_mirror rule frame look order)
 judge_mirror rule frame look order =
     let start : MirrorKind → SpaceSaid = λ m. record { frame = frame; look = look; mirror = m; pins = [] } in
-    turned 5 (formed mirror_in) (λ m ls. with_space rule order (from_fixes 6 (start m) ls)) any_mirror (kind_of 0) refl (ap of_form (mirror_front any_mirror 0 mirror_form)) (λ m. told 6 (from_fixes 6 (start m)) (λ s. record { rule = rule; order = order; space = s }) (judge_fixes 6 (start m)))
+    turned 5 (formed mirror_in) (λ m ls. with_space rule order (from_fixes 6 (start m) ls)) any_mirror (kind_of 0) refl (ap of_form (mirror_front any_mirror 0 mirror_form)) (λ m. judge_all rule order (start m))
 
-judge_order : (rule : Sets) (frame : Shape) (look : Look) → Judges 4 (from_order rule frame look)
+pub judge_order : (rule : Sets) (frame : Shape) (look : Look) → Judges 4 (from_order rule frame look)
 unfolding any_order
 judge_order rule frame look = turned 4 (formed order_in) (from_mirror rule frame look) any_order Rows refl (ap of_form (order_front any_order Rows (32, refl, refl))) (judge_mirror rule frame look)
 
-judge_space : (rule : Sets) (frame : Shape) → Judges 3 (from_space rule frame)
+pub judge_space : (rule : Sets) (frame : Shape) → Judges 3 (from_space rule frame)
 unfolding any_space
 judge_space rule frame = turned 3 (look_line frame) (from_order rule frame) any_space (look_of Plain frame) refl (ap (λ o. go_on (of_form o) (λ named. Ok (look_of named frame))) (space_front any_space Plain (32, refl, refl))) (judge_order rule frame)
 
-judge_frame : (rule : Sets) → Judges 2 (from_frame rule)
+pub judge_frame : (rule : Sets) → Judges 2 (from_frame rule)
 unfolding any_size
 judge_frame rule = turned 2 frame_line (from_space rule) any_box (record { width = 1; height = 1; period = 1; dx = pos 0; dy = pos 0 }) refl (frame_front any_box any_size (record { width = 1; height = 1; period = 1; dx = pos 0; dy = pos 0 }) box_form refl) (judge_space rule)
 

@@ -1,7 +1,10 @@
+pub mod Causes
 pub mod Ends
+pub mod Exact
 pub mod Faulting
 pub mod Fixes
 pub mod Lines
+pub mod Pins
 pub mod Statements
 pub mod Stops
 pub mod Texts

@@ -85,7 +85,7 @@ told_stops n r tell ls f stop = record {
   at_fault = ⊎_elim (λ missing. inl missing) (λ (line, after, is, none). inr (line, after, is, λ rest. ap (λ v. go_on v (λ a. Ok (tell a))) (none rest))) stop.at_fault;
 }
 
-untold : {A B : Type 0} (v : Result A ProblemFault) (tell : A → B) (f : ProblemFault) → go_on v (λ a. Ok (tell a)) ≡ Err f → v ≡ Err f
+pub untold : {A B : Type 0} (v : Result A ProblemFault) (tell : A → B) (f : ProblemFault) → go_on v (λ a. Ok (tell a)) ≡ Err f → v ≡ Err f
 untold (Ok a) tell f e = absurd (cc)
 untold (Err g) tell f e = let same : g ≡ f = cc in ap (λ (h : ProblemFault). Err h) same
 

@@ -1,3 +1,4 @@
+pub mod Causes
 pub mod Faults
 pub mod Forms
 pub mod Laws

@@ -12,7 +12,7 @@ use crate::forms::{Fixing, Named, Size, fix_in, mirror_in, order_in, size_in, sp
 use crate::problem::Problem;
 use choices::{AnyOrder, Surface};
 use frames::Frame;
-use lines::Lines;
+use lines::{Lines, MOST_BYTES};
 use planes::{Fixed, Mirror, MirrorKind};
 use rules::Rule;
 use words::value_of;
@@ -131,14 +131,16 @@ fn fix_all(space: &mut Fixed<Mirror<Surface>>, mut lines: Lines<'_>) -> Result<(
     Ok(())
 }
 
-// The problem of a text, or the first line at fault.
+// The problem of a text, or the first line at fault and why. Refused with 18 at line 1 where the text has
+// over `MOST_BYTES`; with 27 at a line of the first five that is missing, and at any that is not of its
+// form; with 5 and 6 at line 1, with 1 to 4 at line 2, and with 7 to 9 from line 6 on.
 #[tactic(auto, unfolding(crate::specs::Reading::problem_in))]
 pub fn read_problem(text: &[u8]) -> Result<Problem, ProblemFault>
     ensures value { shown result ≡ problem_in text.now }
     ensures too_long { 65536 < length text.now → result ≡ Err (record { line = 1; cause = TooLong }) }
     ensures refuses { length text.now ≤ 65536 → IfErr result (Refuses 65541) }
 {
-    if text.len() > 65_536 {
+    if text.len() > MOST_BYTES {
         return at_line(1, Err(Cause::TooLong));
     }
     let mut lines = Lines::new(text);
