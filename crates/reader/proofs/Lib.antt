@@ -5,3 +5,4 @@ pub mod Numerals
 pub mod Parts
 pub mod Places
 pub mod Readings
+pub mod Standing

@@ -109,13 +109,13 @@ stopped (call r s t a more one rest) fault m =
     (next.0, subst (λ (z : Stand). Stops z.phase z.rest fault.cause next.0) (one.stands ∙ is) next.1, subst (λ z. fault ≡ fault_at (spot_before z next.0) fault.cause) one.text next.2))
 
 -- how a reader stands at first
-abbrev Starts : List ℕ → Reader → Type 0
+abbrev pub Starts : List ℕ → Reader → Type 0
 Starts text r = (r.text.now ≡ text) × (r.phase ≡ Opening) × (left r ≡ text)
 
-abbrev Fails : Reader → Type 0
+abbrev pub Fails : Reader → Type 0
 Fails r = (r.text.now ≡ []) × (r.phase ≡ Failed TooLong) × (left r ≡ [])
 
-starts : (text : List ℕ) (r : Reader) → Opened text r → leb (length text) 65536 ≡ true → Starts text r
+pub starts : (text : List ℕ) (r : Reader) → Opened text r → leb (length text) 65536 ≡ true → Starts text r
 starts text r o e =
     let all : readable text ≡ text = cond-true (leb (length text) 65536) text [] e in (
       o.whole ∙ all,
@@ -123,7 +123,7 @@ starts text r o e =
       ap (λ (z : Stand). z.rest) o.stands ∙ all,
     )
 
-fails : (text : List ℕ) (r : Reader) → Opened text r → leb (length text) 65536 ≡ false → Fails r
+pub fails : (text : List ℕ) (r : Reader) → Opened text r → leb (length text) 65536 ≡ false → Fails r
 fails text r o e =
     let none : readable text ≡ [] = cond-false (leb (length text) 65536) text [] e in (
       o.whole ∙ none,

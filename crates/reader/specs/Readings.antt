@@ -1,7 +1,7 @@
 -- What a reader of a text answers from the first byte on, call after call.
 use Rattle.std.specs.Prelude.{◌≡◌, ℕ, ◌<◌, ◌≤◌, Bool, ◌⊎◌, List, [], ◌∷◌, length, Ok, Err, Option, Result, ◌≢◌}
 use Rattle.rle.specs.declared.fault.ReadCause.{ReadCause}
-use Rattle.rle.specs.declared.fault.ReadCause.TheVariants.{TooLong, Size, Outside}
+use Rattle.rle.specs.declared.fault.ReadCause.TheVariants.{TooLong}
 use Rattle.rle.specs.declared.fault.ReadFault.{ReadFault}
 use Rattle.rle.specs.declared.mark.Run.{Run}
 use Rattle.rle.specs.Items.{Part}
@@ -81,12 +81,3 @@ RefusesLong =
 -- a reader that is not refused stands as one that is made of any text
 abbrev pub OpensAlike : Type 0
 OpensAlike = (text : List ℕ) (first : Reader) → Begun text (Ok first) → Opened text first
-
-pub record CallLaws : Type 0 where
-  pub every : ReadsAll
-  pub only : ReadsNoOther
-  pub faults : FaultsStand
-  pub large : TellsFault Size
-  pub outside : TellsFault Outside
-  pub long : RefusesLong
-  pub alike : OpensAlike

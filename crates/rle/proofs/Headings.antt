@@ -257,7 +257,7 @@ see_width : (w : ℕ) (t : List ℕ) → Seen Alike (AfterWidth w) (λ x. and_th
 see_width w =
     seen_then Alike (Spelled before_height) (λ _. AfterHeight w) (in_turn before_height) (λ _ c. and_then (size c) (λ h d. tailed w h d)) (λ x. Unit {0}) (see_turn before_height) (λ x a rest g. tt) (λ a x g. see_height w x) (λ a. default_height w)
 
-abbrev from_width : ℕ → List ℕ → Scan Head
+abbrev pub from_width : ℕ → List ℕ → Scan Head
 from_width w b = and_then (in_turn before_height b) (λ _ c. and_then (size c) (λ h d. tailed w h d))
 
 see_sizes : (t : List ℕ) → Seen Alike (Both Numeral AfterWidth) (λ x. and_then (size x) from_width) t (and_then (size t) from_width)

@@ -1,6 +1,7 @@
 pub mod Bodies
 pub mod Canonical
 pub mod Faulting
+pub mod Headers
 pub mod Headings
 pub mod Laying
 pub mod Lines

@@ -80,10 +80,10 @@ with_remark line rest h bare =
 shortest : (rest : List ℕ) × BareForm rest
 shortest = let d = default_heading in (d.1 ++ (33 ∷ []), head_begins [] d.0 d.1 d.2)
 
-opens_remark : (b : ℕ) (t : List ℕ) → eqb b 35 ≡ true → opening_item (b ∷ t) ≡ remark_item (b ∷ t)
+pub opens_remark : (b : ℕ) (t : List ℕ) → eqb b 35 ≡ true → opening_item (b ∷ t) ≡ remark_item (b ∷ t)
 opens_remark b t e = cond-true (eqb b 35) _ _ e
 
-opens_heading : (b : ℕ) (t : List ℕ) → eqb b 35 ≡ false → opening_item (b ∷ t) ≡ heading_item (b ∷ t)
+pub opens_heading : (b : ℕ) (t : List ℕ) → eqb b 35 ≡ false → opening_item (b ∷ t) ≡ heading_item (b ∷ t)
 opens_heading b t e = cond-false (eqb b 35) _ _ e
 
 remark_good : (t rest : List ℕ) → line_over t ≡ good tt rest → remark_item t ≡ good (took_remark (first_line t)) rest
@@ -108,7 +108,7 @@ view_remark b t e =
     (λ f. subst P (sym (remark_good (b ∷ t) f.0 f.1)) (remarked (first_line (b ∷ t)) f.0 (remark_line b t e view.0) f.2))
     view.1
 
-abbrev took_of : List ℕ → Scan Head → Scan Taken
+abbrev pub took_of : List ℕ → Scan Head → Scan Taken
 took_of t s = and_then s (λ head rest. good (took_heading (first_line t) head) rest)
 
 view_heading : (b : ℕ) (t : List ℕ) → eqb b 35 ≡ false → (s : Scan Head) → heading (b ∷ t) ≡ s → Seen Alike Headed heading (b ∷ t) s → OpenView (b ∷ t) (took_of (b ∷ t) s)

@@ -2,7 +2,7 @@
 use Rattle.std.proofs.Common.{◌≡◌, ℕ, ◌+◌, ◌-◌, eqb, List, [], ◌∷◌, ◌++◌, length, take, sym, refl, ap, ◌∙◌, subst, ⊎_elim, arith, length-append}
 use Rattle.std.specs.List.{flat_map}
 use Rattle.std.proofs.Math.Seq.{take-append_seam}
-use Rattle.std.proofs.lemmas.Bool.{cases_Bool, cond-true, cond-false, eqb-true, not_from_false}
+use Rattle.std.proofs.lemmas.Bool.{cases_Bool, cond-true, cond-false, eqb-true, not_from_false, not-true}
 use Rattle.std.proofs.lemmas.List.{append_assoc, append-nil}
 use Rattle.rle.specs.Forms.{Each, on_line, ended}
 use Rattle.rle.specs.declared.fault.ReadCause.{ReadCause}
@@ -60,10 +60,22 @@ before_last before at =
     let many : length (before ++ at) - length at ≡ length before = omega (arith, length-append before at) in
     ap (λ n. take n (before ++ at)) many ∙ take-append_seam before at
 
+-- where the last bytes start is past what stands before them
+pub spot_after : (before at : List ℕ) → spot_before (before ++ at) at ≡ spot_past corner before
+spot_after before at = ap (spot_past corner) (before_last before at)
+
+-- in one line only the column goes on
+pub spot_on_line : (s : Spot) (u : List ℕ) → Each on_line u → spot_past s u ≡ spot s.line (s.column + length u)
+unfolding spot_past
+spot_on_line s [] h = let same : s.column + 0 ≡ s.column = omega arith in ap (spot s.line) (sym same)
+spot_on_line s (b ∷ u) h =
+    let sum : (s.column + 1) + length u ≡ s.column + length (b ∷ u) = omega arith in
+    ap (λ x. spot_past x u) (cond-false (eqb b 10) (spot (s.line + 1) 1) (spot s.line (s.column + 1)) (not-true (eqb b 10) h.0)) ∙ spot_on_line (spot s.line (s.column + 1)) u h.1 ∙ ap (spot s.line) sum
+
 pub places_count : PlacesCount
 places_count before at =
     let all = counts 1 [] before tt in
-    let is : spot_before (before ++ at) at ≡ spot (1 + length all.0) (length all.1 + 1) = ap (spot_past corner) (before_last before at) ∙ all.5 in
+    let is : spot_before (before ++ at) at ≡ spot (1 + length all.0) (length all.1 + 1) = spot_after before at ∙ all.5 in
     record {
       lines = all.0;
       part = all.1;

@@ -73,6 +73,7 @@ large_number t at e =
     (λ f.
     let judged_here : bad Size t ≡ bad Size at = sym (cond-false (leb a.0 32) (good a.0 a.1) (bad Size t) f) ∙ a.3 in
     let there : t ≡ at = cc in
-    (a.0, s.0, a.1, s.1, numeral_over t a.0 a.1 a.2, leb-false a.0 32 f, sym there ∙ s.2, there))
+    let split : at ≡ s.0 ++ a.1 = subst (λ x. x ≡ s.0 ++ a.1) there s.2 in
+    (a.0, s.0, a.1, s.1, numeral_over t a.0 a.1 a.2, leb-false a.0 32 f, split, there))
     (cases_Bool (leb a.0 32)))
     (then_bad (numeral t) (judged t) Size at e)

@@ -42,6 +42,11 @@ abbrev pub RuleForm : Option (List ℕ) → List ℕ → Type 0
 RuleForm None tail = Each blank tail
 RuleForm (Some r) tail = (key : List ℕ) × (bs : List ℕ) × Spells before_rule key × Each blank bs × Each on_line r × (past blank (r ++ bs) ≡ r ++ bs) × (trimmed r ≡ r) × (tail ≡ key ++ (r ++ bs))
 
+-- what a heading's line has from where its rule starts: the rule and blanks; where no rule is named, nothing, since it would start at the line's end
+abbrev pub RuleStarts : Option (List ℕ) → List ℕ → Type 0
+RuleStarts None own = own ≡ []
+RuleStarts (Some r) own = (bs : List ℕ) × Each blank bs × (own ≡ r ++ bs)
+
 -- a heading's line: x = w, y = h and perhaps a rule
 pub record HeadForm (w h : ℕ) (rule : Option (List ℕ)) (line : List ℕ) : Type 0 where
   pub first : List ℕ

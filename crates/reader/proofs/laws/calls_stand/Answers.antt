@@ -1,4 +1,5 @@
 use Rattle.reader.proofs.Readings.{reads_all, reads_no_other, faults_stand, tells_large, tells_outside, refuses_long, opens_alike}
+use Rattle.reader.proofs.Standing.{items_stand}
 use Rattle.reader.proofs.laws.calls_stand.Goals as goal
 
 pub returns : goal.returns
@@ -8,6 +9,7 @@ returns c = record {
   faults = faults_stand;
   large = tells_large;
   outside = tells_outside;
+  stand = items_stand;
   long = refuses_long;
   alike = opens_alike;
 }
