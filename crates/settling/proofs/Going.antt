@@ -1,10 +1,10 @@
 -- Settling instance by instance and class by class: what was looked at is quiet since, unless a class was set that it names.
-use Rattle.std.proofs.Common.{◌≡◌, ℕ, ◌+◌, ◌<◌, ◌≤◌, ◌≢◌, Bool, false, List, ◌∷◌, ◌++◌, length, get_or, drop, sym, refl, ap, ◌∙◌, subst, inl, inr, append_assoc, arith}
+use Rattle.std.proofs.Common.{◌≡◌, ℕ, zero, suc, ◌+◌, ◌<◌, ◌≤◌, ◌≢◌, Bool, false, List, [], ◌∷◌, ◌++◌, length, get_or, drop, sym, refl, ap, ◌∙◌, subst, inl, inr, append_assoc, arith}
 use Rattle.std.proofs.lemmas.Bool.{cases_eq}
 use Rattle.std.proofs.lemmas.List.{drop_at, drop-append-le, drop_more, drop_all}
 use Rattle.codes.specs.declared.value.Value.{Value}
 use Rattle.systems.specs.declared.instance.Instance.{Instance}
-use Rattle.systems.specs.Systems.{In, Sys, at, code_for, Mentions, Proper}
+use Rattle.systems.specs.Systems.{In, there, Sys, at, code_for, Mentions, Proper}
 use Rattle.systems.specs.Settling.{Steps, stop, no_fit, Settles}
 use Rattle.systems.specs.Trails.{Held, hold_by, Grows, QuietUnless, QuietBut}
 use Rattle.systems.proofs.Base.{get_d_in}
@@ -99,6 +99,22 @@ module _ (S : Sys) (proper : Proper S) (f : ℕ → Instance) (k : ℕ) (i : Ins
   seen_refused new e q = subst (λ (h : Held). MeetsAt S old.values h.values) (sym q) (record { steps = s.steps; contra = no_fit inside e })
 
 -- ---- all instances, and all that name a class
+-- what is left of a list later on is left of it before
+in_drop : {x : ℕ} (n : ℕ) (xs : List ℕ) → In x (drop n xs) → In x xs
+in_drop zero xs m = m
+in_drop (suc n) [] m = m
+in_drop (suc n) (y ∷ ys) m = there (in_drop n ys m)
+
+in_dropped : {x : ℕ} (k n : ℕ) (xs : List ℕ) → k ≤ n → In x (drop n xs) → In x (drop k xs)
+in_dropped zero n xs l m = in_drop n xs m
+in_dropped (suc k) zero xs l m = absurd (omega arith)
+in_dropped (suc k) (suc n) [] l m = m
+in_dropped (suc k) (suc n) (y ∷ ys) l m = in_dropped k n ys (omega arith) m
+
+-- every instance was looked at, so that it is quiet, unless it names a class of the trail from any place that was there before
+pub all_looked : (S : Sys) (old new : Held) (k : ℕ) → k ≤ length old.trail → Through S old new → QuietBut S (at new.values) (drop k new.trail)
+all_looked S old new k l t i m = weaker S.rule (at new.values) (drop (length old.trail) new.trail) (drop k new.trail) i (λ x n. in_dropped k (length old.trail) new.trail l n) (t.quiet i m)
+
 pub seen_all : (S : Sys) (is : List Instance) (k : ℕ) (old new : Held) → ((i : Instance) → In i S.instances → In i is) → length is ≤ k → Seen S (numbered is) k old new → Through S old new
 unfolding numbered
 seen_all S is k old new all l s =

@@ -1,4 +1,4 @@
-ghost use Rattle.std.specs.Prelude.{◌≡◌, ℕ, ◌+◌, ◌<◌, ◌≤◌, List, [], ◌++◌, length, min, take, drop, MatchResult, OnOk, OnErr};
+ghost use Rattle.std.specs.Prelude.{◌≡◌, ℕ, ◌+◌, ◌<◌, ◌≤◌, List, ◌++◌, length, min, take, drop, MatchResult, OnOk, OnErr};
 ghost use Rattle.codes.specs.Codes.{is_unknown};
 ghost use Rattle.codes.specs.declared.value.Value.{Value};
 ghost use Rattle.gathering.specs.Systems.{class_count};
@@ -127,14 +127,15 @@ impl Board {
         Ok(())
     }
 
-    /// Looks at every instance once, and then settles; refused where a contradiction is met, as `settle`.
+    /// Looks at every instance once, and then settles, whatever was settled before; refused where a
+    /// contradiction is met, as `settle`.
     pub fn settle_all(&mut self) -> Result<(), Contradiction>
         ensures kept { Kept self.old self.new }
         ensures longer { trail_len self.old ≤ trail_len self.new }
         ensures grows { Grows (held_of self.old) (held_of self.new) }
         ensures settled { OnOk result (settled_len self.new ≡ trail_len self.new) }
         ensures onward { settled_len self.old ≤ settled_len self.new }
-        ensures settles { (S : Sys) → Serves self.old S → trail_of self.old ≡ [] → OnOk result (Settles S (values_of self.old) (values_of self.new)) }
+        ensures settles { (S : Sys) → Serves self.old S → OnOk result (Settles S (values_of self.old) (values_of self.new)) }
         ensures meets { (S : Sys) → Serves self.old S → OnErr result (MeetsAt S (values_of self.old) (values_of self.new)) }
     {
         self.examine_all()?;

@@ -14,7 +14,7 @@ returns-in-Ok-clause-follows c S may =
     let all = c.in-Ok.ensures.settled in
     let first = c.settle_all.ensures in
     let then = c.settle-self.ensures in
-    let settles = c.in-Ok.ensures.settles S (may_serve S old c.args.torn may whole) may.unset in
+    let settles = c.in-Ok.ensures.settles S (may_serve S old c.args.torn may whole) in
     opened S old c.args.torn may _ (record { system = then.kept.system ∙ first.kept.system; table = then.kept.table ∙ first.kept.table }) then.same.ranks then.same.decisions (grows_then first.grows then.grows) then.settled
     (stands_again S old c.args.torn may whole b first.kept all settles _ _ (then.stands S (again S old c.args.torn may whole b first.kept all settles _ refl refl)))
 
