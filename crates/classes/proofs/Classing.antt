@@ -138,6 +138,7 @@ classes_right s inside = record {
   joins = λ a b ha hb j. sym (class_of_label s inside a ha) ∙ ap (class_of s) ((labels_right s inside).joins a b j) ∙ class_of_label s inside b hb;
   joined = λ a b ha hb e. (labels_right s inside).joined a b ha hb (sym ((whole s inside).lowest a ha) ∙ ap (lowest_of s) e ∙ (whole s inside).lowest b hb);
   lowest = (whole s inside).lowest;
+  in_box = (whole s inside).early;
   begun = (whole s inside).begun;
   rising = (whole s inside).rising;
 }

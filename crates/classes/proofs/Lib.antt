@@ -6,3 +6,4 @@ pub mod Numbered
 pub mod Asking
 pub mod Classing
 pub mod Needing
+pub mod Freeing

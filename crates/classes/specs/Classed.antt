@@ -29,6 +29,7 @@ pub record ClassesRight (s : Surface) : Type 0 where
   pub joined : (a b : ℕ) → a < cells s.frame → b < cells s.frame → class_of s a ≡ class_of s b → Joined s a b
   -- the lowest cell of a cell's class is the lowest cell that is joined to it
   pub lowest : (a : ℕ) → a < cells s.frame → lowest_of s (class_of s a) ≡ label_of s a
+  pub in_box : (j : ℕ) → j < class_count s → lowest_of s j < cells s.frame
   pub begun : (j : ℕ) → j < class_count s → class_of s (lowest_of s j) ≡ j
   pub rising : (j k : ℕ) → j < k → k < class_count s → lowest_of s j < lowest_of s k
 

@@ -1,6 +1,7 @@
 pub mod Asked
 pub mod Classed
 pub mod Examples
+pub mod Free
 pub mod Joins
 pub mod Labels
 pub mod Needed

@@ -1,5 +1,6 @@
 ghost use Rattle.classes.specs.Classed.{ClassesStand};
 ghost use Rattle.classes.specs.Examples.{ClassesWorked};
+ghost use Rattle.classes.specs.Free.{FreeStands};
 ghost use Rattle.classes.specs.Joins.{LabelsStand};
 ghost use Rattle.classes.specs.Needed.{MustsStand};
 
@@ -19,6 +20,12 @@ pub fn classes_stand()
 // cells.
 pub fn musts_stand()
     ensures { MustsStand }
+{}
+
+// The law of the free classes stands: they are as many as there are classes none of whose cells any
+// row asks to be off or on.
+pub fn free_stands()
+    ensures { FreeStands }
 {}
 
 // The worked examples of classes stand.

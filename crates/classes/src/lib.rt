@@ -12,4 +12,4 @@ mod uniting;
 
 pub use classes::{Classes, Musts};
 pub use finding::classes_of;
-pub use laws::{classes_stand, labels_stand, musts_stand, worked_classes_stand};
+pub use laws::{classes_stand, free_stands, labels_stand, musts_stand, worked_classes_stand};

@@ -3,3 +3,4 @@ pub mod Chains
 pub mod Dictionary
 pub mod Generations
 pub mod Worked
+pub mod Margins

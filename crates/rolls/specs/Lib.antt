@@ -1,4 +1,5 @@
 pub mod Examples
 pub mod Joined
 pub mod Laws
+pub mod Margins
 pub mod Rolls

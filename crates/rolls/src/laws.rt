@@ -1,5 +1,6 @@
 ghost use Rattle.rolls.specs.Examples.{RollsWorked};
 ghost use Rattle.rolls.specs.Laws.{OrderLaws, RollLaws};
+ghost use Rattle.rolls.specs.Margins.{MarginsStand};
 ghost use Rattle.rolls.specs.Rolls.{Lawful, around, surface};
 ghost use Rattle.planes.specs.declared.neighbours.TheConstants.{NEIGHBOURS};
 ghost use Rattle.std.specs.Prelude.{◌≡◌};
@@ -14,6 +15,12 @@ pub fn roll_laws_stand()
 // The laws of dictionary order stand.
 pub fn order_laws_stand()
     ensures { OrderLaws }
+{}
+
+// The law of the margin stands: where looks outside the box fall on nothing, as on the plain plane,
+// the instances up to nine cells outside it decide all the others.
+pub fn margins_stand()
+    ensures { MarginsStand }
 {}
 
 // What any space says keeps the laws of planes.

@@ -4,5 +4,6 @@
 mod laws;
 
 pub use laws::{
-    neighbours_stand, order_laws_stand, roll_laws_stand, surface_stands, worked_rolls_stand,
+    margins_stand, neighbours_stand, order_laws_stand, roll_laws_stand, surface_stands,
+    worked_rolls_stand,
 };
