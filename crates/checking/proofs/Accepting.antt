@@ -28,78 +28,64 @@ use Rattle.patterns.specs.Laws.{Faulty}
 use Rattle.patterns.specs.Laid.{laid}
 use Rattle.patterns.specs.Told.{Told, told}
 use Rattle.patterns.proofs.Whole.{telling_right, whole}
-use Rattle.checking.specs.Checked.{checked, judged, ruled, ruled_by, sized, kept, held, after, are_of, rule_text}
+use Rattle.checking.specs.Checked.{AsksCells, checked, judged, ruled, ruled_by, sized, kept, held, after, are_of, rule_text}
 use Rattle.checking.specs.Laws.{FirstOf, Suits, AcceptingLaws, RefusingLaws, RollLaws}
 use Rattle.checking.specs.declared.fault.CheckFault.{CheckFault}
 use Rattle.checking.specs.declared.fault.CheckFault.TheVariants.{Rows, Read, Rule as RuleFaulty, OtherRule, Size, Instance, Tie, Memory}
 
 -- a named rule is this one exactly when its text is this one's
-named_is : (r : Rule) (text : List ℕ) (n : Sets) → parsed text ≡ Ok n → are_of r n ≡ true → text ≡ written r.births r.survivals
+pub named_is : (r : Rule) (text : List ℕ) (n : Sets) → parsed text ≡ Ok n → are_of r n ≡ true → text ≡ written r.births r.survivals
 named_is r text n e is =
     let parts = and_parts _ _ is in
     let same : text ≡ written n.births n.survivals = (forms_stand.2 text n.births n.survivals e).3 in
     same ∙ (λ i. written (eqb-true n.births r.births parts.0 i) (eqb-true n.survivals r.survivals parts.1 i))
 
-is_named : (r : Rule) (text : List ℕ) → text ≡ written r.births r.survivals → parsed text ≡ Ok (record { births = r.births; survivals = r.survivals })
+pub is_named : (r : Rule) (text : List ℕ) → text ≡ written r.births r.survivals → parsed text ≡ Ok (record { births = r.births; survivals = r.survivals })
 is_named r text e = ap parsed e ∙ forms_stand.0 r.births r.survivals r.few_births r.few_survivals r.quiet
+
+pub own_rule : (r : Rule) → are_of r (record { births = r.births; survivals = r.survivals }) ≡ true
+own_rule r = and_from _ _ (eq-eqb r.births r.births refl) (eq-eqb r.survivals r.survivals refl)
 
 -- a text that suits comes to its cells
 pub to_cells : (s : Surface) (r : Rule) (text : List ℕ) (t : Told) → Suits s r text t → checked s r text ≡ kept s r (laid s.frame t.runs)
 to_cells s r text t u =
     let few : nat_lt 8 s.rows ≡ false = le-ltb 8 s.rows u.few in
     let named = is_named r (rule_text t.rule) u.named in
-    let own : are_of r (record { births = r.births; survivals = r.survivals }) ≡ true = and_from _ _ (eq-eqb r.births r.births refl) (eq-eqb r.survivals r.survivals refl) in
-    let ok : ruled r t ≡ Ok tt = ap (ruled_by r t) named ∙ cond-true _ _ _ own in
+    let ok : ruled r t ≡ Ok tt = ap (ruled_by r t) named ∙ cond-true _ _ _ (own_rule r) in
     let small : sized s.frame t ≡ Ok tt = cond-false _ _ _ ((λ i. le-ltb s.frame.width t.width u.narrow i || le-ltb s.frame.height t.height u.low i)) in
     cond-false (nat_lt 8 s.rows) (Err Rows) (judged s r (told text)) few
     ∙ ap (judged s r) u.tells
     ∙ ap (λ x. after x (after (sized s.frame t) (kept s r (laid s.frame t.runs)))) ok
     ∙ ap (λ x. after x (kept s r (laid s.frame t.runs))) small
 
--- an answer that is about the cells of a text
-Cells : Result (List Bool) CheckFault → Type 0
-Cells (Ok first) = Unit {0}
-Cells (Err Rows) = ⊥
-Cells (Err (Read fault)) = ⊥
-Cells (Err (RuleFaulty fault)) = ⊥
-Cells (Err OtherRule) = ⊥
-Cells (Err Size) = ⊥
-Cells (Err (Instance at)) = Unit {0}
-Cells (Err (Tie at)) = Unit {0}
-Cells (Err (Memory e)) = ⊥
-
-neither : (a b : Bool) → (a || b) ≡ false → (a ≡ false) × (b ≡ false)
+-- neither of two holds
+pub neither : (a b : Bool) → (a || b) ≡ false → (a ≡ false) × (b ≡ false)
 neither true b e = absurd (both_ways true e refl)
 neither false b e = (refl, e)
 
 -- such an answer is not the refusal of a question before
-past_rows : (b : Bool) (next x : Result (List Bool) CheckFault) → cond b (Err Rows) next ≡ x → Cells x → (b ≡ false) × (next ≡ x)
-unfolding Cells
-past_rows true next x e c = absurd (subst Cells (sym e) c)
+past_rows : (b : Bool) (next x : Result (List Bool) CheckFault) → cond b (Err Rows) next ≡ x → AsksCells x → (b ≡ false) × (next ≡ x)
+past_rows true next x e c = absurd (subst AsksCells (sym e) c)
 past_rows false next x e c = (refl, e)
 
-past_size : (b : Bool) (next x : Result (List Bool) CheckFault) → after (cond b (Err Size) (Ok tt)) next ≡ x → Cells x → (b ≡ false) × (next ≡ x)
-unfolding Cells
-past_size true next x e c = absurd (subst Cells (sym e) c)
+past_size : (b : Bool) (next x : Result (List Bool) CheckFault) → after (cond b (Err Size) (Ok tt)) next ≡ x → AsksCells x → (b ≡ false) × (next ≡ x)
+past_size true next x e c = absurd (subst AsksCells (sym e) c)
 past_size false next x e c = (refl, e)
 
-past_other : (b : Bool) (next x : Result (List Bool) CheckFault) → after (cond b (Ok tt) (Err OtherRule)) next ≡ x → Cells x → (b ≡ true) × (next ≡ x)
-unfolding Cells
+past_other : (b : Bool) (next x : Result (List Bool) CheckFault) → after (cond b (Ok tt) (Err OtherRule)) next ≡ x → AsksCells x → (b ≡ true) × (next ≡ x)
 past_other true next x e c = (refl, e)
-past_other false next x e c = absurd (subst Cells (sym e) c)
+past_other false next x e c = absurd (subst AsksCells (sym e) c)
 
-past_rule : (r : Rule) (t : Told) (n : Result Sets RuleFault) (next x : Result (List Bool) CheckFault) → after (ruled_by r t n) next ≡ x → Cells x → (named : Sets) × (n ≡ Ok named) × (are_of r named ≡ true) × (next ≡ x)
-unfolding Cells
-past_rule r t (Err cause) next x e c = absurd (subst Cells (sym e) c)
+past_rule : (r : Rule) (t : Told) (n : Result Sets RuleFault) (next x : Result (List Bool) CheckFault) → after (ruled_by r t n) next ≡ x → AsksCells x → (named : Sets) × (n ≡ Ok named) × (are_of r named ≡ true) × (next ≡ x)
+past_rule r t (Err cause) next x e c = absurd (subst AsksCells (sym e) c)
 past_rule r t (Ok named) next x e c = let w = past_other (are_of r named) next x e c in (named, refl, w.0, w.1)
 
-past_reading : (s : Surface) (r : Rule) (z : Result Told ReadFault) (x : Result (List Bool) CheckFault) → judged s r z ≡ x → Cells x → (t : Told) × (z ≡ Ok t) × (judged s r (Ok t) ≡ x)
-unfolding Cells
-past_reading s r (Err fault) x e c = absurd (subst Cells (sym e) c)
+past_reading : (s : Surface) (r : Rule) (z : Result Told ReadFault) (x : Result (List Bool) CheckFault) → judged s r z ≡ x → AsksCells x → (t : Told) × (z ≡ Ok t) × (judged s r (Ok t) ≡ x)
+past_reading s r (Err fault) x e c = absurd (subst AsksCells (sym e) c)
 past_reading s r (Ok t) x e c = (t, refl, e)
 
 -- so the text suits, and its cells are asked
-from_cells : (s : Surface) (r : Rule) (text : List ℕ) (x : Result (List Bool) CheckFault) → checked s r text ≡ x → Cells x → (t : Told) × Suits s r text t × (kept s r (laid s.frame t.runs) ≡ x)
+pub from_cells : (s : Surface) (r : Rule) (text : List ℕ) (x : Result (List Bool) CheckFault) → checked s r text ≡ x → AsksCells x → (t : Told) × Suits s r text t × (kept s r (laid s.frame t.runs) ≡ x)
 from_cells s r text x e c =
     let few = past_rows (nat_lt 8 s.rows) (judged s r (told text)) x e c in
     let read = past_reading s r (told text) x few.1 c in
@@ -185,7 +171,7 @@ held_tie first b None None e = cc
 held_tie first b (Some at) None e = (cc, refl)
 held_tie first b o (Some at) e = cc
 
-laid_long : (f : Frame) (runs : List Run) → length (laid f runs) ≡ f.width * f.height
+pub laid_long : (f : Frame) (runs : List Run) → length (laid f runs) ≡ f.width * f.height
 laid_long f runs = length-map (range_with_len 0 (f.width * f.height)) _ ∙ length-range_with_len 0 (f.width * f.height)
 
 -- the first generation is kept exactly when what is worked out of it keeps ties and rule
@@ -194,7 +180,7 @@ kept_keeps s r first f long e =
     let w = held_ok first f _ _ e in
     asking_right.kept s r (worked_out s r first) (working_right.long s r first long) w.2 w.1
 
-keeps_kept : (s : Surface) (r : Rule) (first : List Bool) → Keeps s r (worked_out s r first) → kept s r first ≡ Ok first
+pub keeps_kept : (s : Surface) (r : Rule) (first : List Bool) → Keeps s r (worked_out s r first) → kept s r first ≡ Ok first
 keeps_kept s r first k = let w = asking_right.unbroken s r (worked_out s r first) k in (λ i. held first (w.1 i) (w.0 i))
 
 begins_member : (s : Surface) (r : Rule) (first : List Bool) → length first ≡ s.frame.width * s.frame.height → Keeps s r (worked_out s r first) → FirstOf s r first
@@ -204,7 +190,6 @@ member_keeps : (s : Surface) (r : Rule) (first : List Bool) → Lawful s → Fir
 member_keeps s r first law m = subst (Keeps s r) (working_right.only s r m.0 law m.1 ∙ ap (worked_out s r) m.2) m.1
 
 pub accepting_right : AcceptingLaws
-unfolding Cells
 accepting_right = record {
   accepted = λ s r text t u. (λ e. kept_keeps s r (laid s.frame t.runs) _ (laid_long s.frame t.runs) (sym (to_cells s r text t u) ∙ e), λ k. to_cells s r text t u ∙ keeps_kept s r (laid s.frame t.runs) k);
   member = λ s r first law long. (begins_member s r first long, member_keeps s r first law);
@@ -212,7 +197,6 @@ accepting_right = record {
 }
 
 pub refusing_right : RefusingLaws
-unfolding Cells
 refusing_right = record {
   rows = λ s r text e. rows_told s r text (nat_lt 8 s.rows) refl e;
   reading = λ s r text fault e. reading_told s r text fault (nat_lt 8 s.rows) refl e;
@@ -226,6 +210,15 @@ refusing_right = record {
       let h = held_tie (laid s.frame t.runs) b _ _ w.2 in
       (t, w.1, h.1, asking_right.tie_first s _ b h.0);
 }
+
+-- what is computed of cells is about cells
+held_asks : (first : List Bool) (o : Option TieAt) (i : Option InstanceAt) → AsksCells (held first o i)
+held_asks first None None = tt
+held_asks first (Some at) None = tt
+held_asks first o (Some at) = tt
+
+pub kept_asks : (s : Surface) (r : Rule) (first : List Bool) → AsksCells (kept s r first)
+kept_asks s r first = held_asks first _ _
 
 -- the runs that are written of a filling cover its first generation
 laid_first : (f : Frame) (g : List Bool) (runs : List Run) → length g ≡ cells f → ((x y : ℕ) → x < f.width → y < f.height → covers 0 0 runs x y ≡ at g (y * f.width + x)) → laid f runs ≡ take (f.width * f.height) g

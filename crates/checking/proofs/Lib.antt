@@ -1,2 +1,3 @@
 pub mod Accepting
+pub mod Verdicts
 pub mod Worked

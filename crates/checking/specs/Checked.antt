@@ -63,7 +63,19 @@ judged s r (Ok t) = after (ruled r t) (after (sized s.frame t) (kept s r (laid s
 abbrev pub checked : Surface → Rule → List ℕ → Result (List Bool) CheckFault
 checked s r text = cond (nat_lt 8 s.rows) (Err Rows) (judged s r (told text))
 
--- a refusal is the one that is defined; where memory is wanting nothing is said
+-- an answer that is about the cells of a text: nothing was refused before these were asked
+abbrev pub AsksCells : {A : Type 0} → Result A CheckFault → Type 0
+AsksCells (Ok first) = Unit {0}
+AsksCells (Err Rows) = ⊥
+AsksCells (Err (Read fault)) = ⊥
+AsksCells (Err (RuleFaulty fault)) = ⊥
+AsksCells (Err OtherRule) = ⊥
+AsksCells (Err Size) = ⊥
+AsksCells (Err (Instance at)) = Unit {0}
+AsksCells (Err (Tie at)) = Unit {0}
+AsksCells (Err (Memory e)) = ⊥
+
+-- a refusal is the one that is defined; memory may be wanting only where the answer that is defined is about the cells
 abbrev pub Refuses : {A : Type 0} → Result A CheckFault → CheckFault → Type 0
 Refuses want Rows = want ≡ Err Rows
 Refuses want (Read fault) = want ≡ Err (Read fault)
@@ -72,4 +84,4 @@ Refuses want OtherRule = want ≡ Err OtherRule
 Refuses want Size = want ≡ Err Size
 Refuses want (Instance at) = want ≡ Err (Instance at)
 Refuses want (Tie at) = want ≡ Err (Tie at)
-Refuses want (Memory e) = Unit {0}
+Refuses want (Memory e) = AsksCells want

@@ -1,9 +1,7 @@
--- The number of each refusal of a text, and what is carried from the layer below.
+-- The number of each refusal of a text.
 use Rattle.std.specs.Prelude.{ℕ, Some, None, Option}
 use Rattle.checking.specs.declared.fault.CheckFault.{CheckFault}
 use Rattle.checking.specs.declared.fault.CheckFault.TheVariants.{Rows, Read, Rule, OtherRule, Size, Instance, Tie, Memory}
-use Rattle.patterns.specs.declared.fault.PatternFault.{PatternFault}
-use Rattle.patterns.specs.declared.fault.PatternFault.TheVariants.{Read as PatternRead, Memory as PatternMemory}
 use Rattle.rle.specs.Faults.{number_of as read_number}
 use Rattle.rules.specs.Faults.{number_of as rule_number}
 
@@ -17,8 +15,3 @@ number_of Size = Some 24
 number_of (Instance at) = Some 25
 number_of (Tie at) = Some 26
 number_of (Memory e) = None
-
--- why a text tells no pattern, as it is refused here
-abbrev pub carried : PatternFault → CheckFault
-carried (PatternRead fault) = Read fault
-carried (PatternMemory e) = Memory e

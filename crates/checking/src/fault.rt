@@ -1,9 +1,8 @@
-ghost use Rattle.checking.specs.Faults.{carried, number_of};
-ghost use Rattle.checking.specs.declared.fault.CheckFault.TheVariants.{Memory};
+ghost use Rattle.checking.specs.Faults.{number_of};
+ghost use Rattle.checking.specs.declared.fault.CheckFault.TheVariants.{Memory, Read};
 ghost use Rattle.std.specs.Prelude.{◌≡◌};
 
 use keeping::{InstanceAt, TieAt};
-use patterns::PatternFault;
 use rle::ReadFault;
 use rules::RuleFault;
 use std::alloc::AllocError;
@@ -38,14 +37,11 @@ pub enum CheckFault {
 }
 
 // Each `From` is written out and not derived, so that a clause knows which case `?` gives.
-impl From<PatternFault> for CheckFault {
-    ghost from_gives = { λ fault answer. answer ≡ carried fault };
+impl From<ReadFault> for CheckFault {
+    ghost from_gives = { λ fault answer. answer ≡ Read fault };
 
-    fn from(fault: PatternFault) -> CheckFault {
-        match fault {
-            PatternFault::Read(fault) => CheckFault::Read(fault),
-            PatternFault::Memory(fault) => CheckFault::Memory(fault),
-        }
+    fn from(fault: ReadFault) -> CheckFault {
+        CheckFault::Read(fault)
     }
 }
 

@@ -1,4 +1,5 @@
 ghost use Rattle.checking.specs.Checked.{Refuses, checked, kept, ruled, sized};
+ghost use Rattle.checking.specs.Verdicts.{VerdictOn, shown as answered};
 ghost use Rattle.patterns.specs.Told.{shown};
 ghost use Rattle.rolls.specs.Rolls.{surface};
 ghost use Rattle.std.specs.Prelude.{◌≡◌, MatchResult, Ok};
@@ -44,7 +45,8 @@ fn fits(pattern: &Pattern<'_>, frame: &Frame) -> Result<(), CheckFault>
     Ok(())
 }
 
-// A first generation, where all instances and ties hold in what is worked out of it.
+// A first generation, where all instances and ties hold in what is worked out of it. Memory may be wanting for
+// the generations that follow.
 fn kept<S: Space>(
     heap: Global,
     space: &S,
@@ -63,24 +65,28 @@ fn kept<S: Space>(
     Ok(first)
 }
 
-// Lays the pattern of a text with its corner at (0, 0) of generation 0, the rest of it off, works out the
-// generations that follow in the box, and answers generation 0 as it was laid where all instances
-// and ties hold.
+/// Lays the pattern of a text with its corner at (0, 0) of generation 0, the rest of it off, works out the
+/// generations that follow in the box, and answers generation 0 as it was laid where all instances
+/// and ties hold. The refusals, in sequence: 11 for a space of over 8 rows of ties, 18 to 22 for a text that is at
+/// fault, 5 and 6 for a rule that is none, 23 for another rule, 24 for a pattern that is larger than the box; only
+/// then is memory taken, and it may be wanting; 25 and 26 for the first instance or tie that does not hold.
 pub fn check<S: Space>(
     heap: Global,
     space: &S,
     rule: &Rule,
     text: &[u8],
 ) -> Result<Vec<bool>, CheckFault>
-    ensures { let want = checked (surface (S.Plane.means space.now) (S.Space.count space.now) (S.Space.tied space.now)) rule.now text.now in MatchResult result (λ v. want ≡ Ok v.items) (Refuses want) }
+    ensures value { let want = checked (surface (S.Plane.means space.now) (S.Space.count space.now) (S.Space.tied space.now)) rule.now text.now in MatchResult result (λ v. want ≡ Ok v.items) (Refuses want) }
+    ensures verdict { VerdictOn (surface (S.Plane.means space.now) (S.Space.count space.now) (S.Space.tied space.now)) rule.now text.now (answered result) }
 {
     if space.rows() > MOST_ROWS {
         return Err(CheckFault::Rows);
     }
-    let pattern = Pattern::read(heap, text)?;
+    let pattern = Pattern::read(text)?;
     names(&pattern, rule)?;
     let frame = space.frame();
     fits(&pattern, &frame)?;
-    let first = laid(heap, &frame, pattern.runs.as_slice())?;
+    let runs = pattern.runs(heap)?;
+    let first = laid(heap, &frame, runs.as_slice())?;
     kept(heap, space, rule, first)
 }

@@ -7,4 +7,6 @@ mod laws;
 
 pub use fault::{CheckFault, RuleAt};
 pub use judging::check;
-pub use laws::{accepting_stands, refusing_stands, roll_stands, worked_checks_stand};
+pub use laws::{
+    accepting_stands, refusing_stands, roll_stands, verdicts_stand, worked_checks_stand,
+};

@@ -1,6 +1,6 @@
 -- Asking number by number is asking every instance and every tie.
-use Rattle.std.proofs.Common.{◌≡◌, ℕ, ◌+◌, ◌*◌, ◌/◌, ◌%◌, ◌<◌, Bool, true, false, not, List, Some, None, Option, inl, inr, sym, refl, ap, ◌∙◌, subst, mul_comm, arith}
-use Rattle.std.proofs.lemmas.Bool.{both_ways}
+use Rattle.std.proofs.Common.{◌≡◌, ℕ, ◌+◌, ◌*◌, ◌/◌, ◌%◌, ◌<◌, Bool, true, false, not, ◌⊎◌, List, ℤ, Some, None, Option, inl, inr, sym, refl, ap, ◌∙◌, subst, mul_comm, arith}
+use Rattle.std.proofs.lemmas.Bool.{both_ways, cases_order}
 use Rattle.std.proofs.Math.Nat.{mul-pos}
 use Rattle.std.proofs.lemmas.Nat.{div-mul-add, mod-mul-add, div-add-mod', mul-add-lt, div_below, mod_below}
 use Rattle.std.specs.Bool.{beq}
@@ -10,9 +10,9 @@ use Rattle.frames.specs.Frames.{cells}
 use Rattle.rules.specs.declared.rule.Rule.{Rule}
 use Rattle.planes.specs.declared.tie.Tie.{Tie}
 use Rattle.planes.specs.declared.tie.Tie.TheVariants.{Free, Off, On, Same}
-use Rattle.rolls.specs.Rolls.{Surface, Keeps, InstanceHolds, TieHolds, at, ninth}
+use Rattle.rolls.specs.Rolls.{Surface, InstanceHolds, TieHolds, at, ninth}
 use Rattle.keeping.specs.Asked.{across, down, instances, instance_at, fails, undone, broken_instance, broken_tie, instance_found, tie_found, tie_at}
-use Rattle.keeping.specs.Laws.{AskingLaws, FirstInstance, FirstTie, Earlier, Before}
+use Rattle.keeping.specs.Laws.{AllHold, AskingLaws, FirstInstance, FirstTie, Earlier, Before}
 use Rattle.keeping.specs.declared.places.InstanceAt.{InstanceAt}
 use Rattle.keeping.specs.declared.places.TieAt.{TieAt}
 use Rattle.keeping.proofs.Firsts.{first_misses, none_passes, first_found}
@@ -77,6 +77,34 @@ earlier_lower t j i u l k h w hj hi (inl less) = lower (t * h + j) i (u * h + l)
 earlier_lower t j i u l k h w hj hi (inr (same, inl less)) = lower (t * h + j) i (u * h + l) k w hi (inl (lower t j u l h hj (inr (same, less))))
 earlier_lower t j i u l k h w hj hi (inr (same, inr (row, less))) = lower (t * h + j) i (u * h + l) k w hi (inr ((λ m. same m * h + row m), less))
 
+-- of two pairs one comes before the other, or they are one
+either : (a b c d : ℕ) → Before a b c d ⊎ (Before c d a b ⊎ ((a ≡ c) × (b ≡ d)))
+either a b c d =
+    elim (cases_order a c) [
+      | inl same ↦
+          elim (cases_order b d) [
+            | inl e ↦ inr (inr (same, e))
+            | inr (inl less) ↦ inl (inr (same, less))
+            | inr (inr more) ↦ inr (inl (inr (sym same, more)))
+          ]
+      | inr (inl less) ↦ inl (inl less)
+      | inr (inr more) ↦ inr (inl (inl more))
+    ]
+
+-- and of two instances
+either_instance : (t j i u l k : ℕ) → Earlier t j i u l k ⊎ (Earlier u l k t j i ⊎ ((t ≡ u) × (j ≡ l) × (i ≡ k)))
+either_instance t j i u l k =
+    elim (cases_order t u) [
+      | inl same ↦
+          elim (either j i l k) [
+            | inl before ↦ inl (inr (same, before))
+            | inr (inl after) ↦ inr (inl (inr (sym same, after)))
+            | inr (inr both) ↦ inr (inr (same, both.0, both.1))
+          ]
+      | inr (inl less) ↦ inl (inl less)
+      | inr (inr more) ↦ inr (inl (inl more))
+    ]
+
 module _ (s : Surface) (r : Rule) (f : List Bool) where
   asks : ℕ → Bool
   asks n = fails s r f (instance_at s.frame n)
@@ -99,17 +127,17 @@ module _ (s : Surface) (r : Rule) (f : List Bool) where
   unfolding asks
   holds_at t j i hj hi e = alike _ _ (sym (ap (fails s r f) (placed t j i hj hi)) ∙ e)
 
-  all_hold : broken_instance s r f ≡ None → (t j i : ℕ) → t < s.frame.period → j < s.frame.height + 18 → i < s.frame.width + 18 → InstanceHolds s r f t (ninth i) (ninth j)
+  all_hold : broken_instance s r f ≡ None → AllHold s r f
   unfolding asks
   all_hold e t j i ht hj hi = holds_at t j i hj hi (first_misses asks (instances s.frame) (none_instance s.frame _ e) (number t j i) (number_in t j i ht hj hi))
 
-  none_broken : Keeps s r f → broken_instance s r f ≡ None
+  none_broken : AllHold s r f → broken_instance s r f ≡ None
   unfolding asks
-  none_broken k =
+  none_broken all =
       let w = across s.frame in
       let h = down s.frame in
       ap (instance_found s.frame) (none_passes asks (instances s.frame) (λ n less.
-      like _ _ (k.instances (n / w / h) (n / w % h) (n % w) (generation_below w h s.frame.period n (omega arith) (omega arith) less) (mod_below (n / w) h (omega arith)) (mod_below n w (omega arith)))))
+      like _ _ (all (n / w / h) (n / w % h) (n % w) (generation_below w h s.frame.period n (omega arith) (omega arith) less) (mod_below (n / w) h (omega arith)) (mod_below n w (omega arith)))))
 
   first_at : (n : ℕ) → n < instances s.frame → asks n ≡ true → ((k : ℕ) → k < n → asks k ≡ false) → FirstInstance s r f (instance_at s.frame n)
   unfolding asks number
@@ -135,6 +163,27 @@ module _ (s : Surface) (r : Rule) (f : List Bool) where
       let w = some_instance s.frame _ broken e in
       let found = first_found asks (instances s.frame) w.0 w.1 in
       subst (FirstInstance s r f) (sym w.2) (first_at w.0 found.0 found.1 found.2)
+
+  -- one that does not hold does not come before the first
+  not_before : (a b : InstanceAt) (p : FirstInstance s r f a) (q : FirstInstance s r f b) → Earlier a.t p.row p.column b.t q.row q.column → ⊥
+  not_before a b p q sooner =
+      let P : ℤ → ℤ → Type 0 = λ x y. InstanceHolds s r f a.t x y in
+      p.fails (subst (λ x. P x a.y) (sym p.x) (subst (λ y. P (ninth p.column) y) (sym p.y) (q.first a.t p.row p.column p.lasting p.low p.narrow sooner)))
+
+  -- so that the first is one
+  same_instance : (a b : InstanceAt) → FirstInstance s r f a → FirstInstance s r f b → a ≡ b
+  same_instance a b p q =
+      elim (either_instance a.t p.row p.column b.t q.row q.column) [
+        | inl before ↦ absurd (not_before a b p q before)
+        | inr (inl after) ↦ absurd (not_before b a q p after)
+        | inr (inr same) ↦ (λ i. record { t = same.0 i; y = (p.y ∙ ap ninth same.1 ∙ sym q.y) i; x = (p.x ∙ ap ninth same.2 ∙ sym q.x) i })
+      ]
+
+  one_instance : (o : Option InstanceAt) → broken_instance s r f ≡ o → (a : InstanceAt) → FirstInstance s r f a → broken_instance s r f ≡ Some a
+  one_instance None e a p =
+      let P : ℤ → ℤ → Type 0 = λ x y. InstanceHolds s r f a.t x y in
+      absurd (p.fails (subst (λ x. P x a.y) (sym p.x) (subst (λ y. P (ninth p.column) y) (sym p.y) (all_hold e a.t p.row p.column p.lasting p.low p.narrow))))
+  one_instance (Some b) e a p = e ∙ ap Some (same_instance b a (first_instance b e) p)
 
 module _ (s : Surface) (f : List Bool) where
   asks_tie : ℕ → Bool
@@ -180,10 +229,26 @@ module _ (s : Surface) (f : List Bool) where
       let found = first_found asks_tie (s.rows * cells s.frame) w.0 w.1 in
       subst (FirstTie s f) (sym w.2) (first_tie_at w.0 found.0 found.1 found.2)
 
+module _ (s : Surface) (f : List Bool) where
+  same_tie : (a b : TieAt) → FirstTie s f a → FirstTie s f b → a ≡ b
+  same_tie a b p q =
+      elim (either a.row a.cell b.row b.cell) [
+        | inl before ↦ absurd (p.fails (q.first a.row a.cell p.row p.cell before))
+        | inr (inl after) ↦ absurd (q.fails (p.first b.row b.cell q.row q.cell after))
+        | inr (inr same) ↦ (λ i. record { row = same.0 i; cell = same.1 i })
+      ]
+
+  one_tie : (o : Option TieAt) → broken_tie s f ≡ o → (a : TieAt) → FirstTie s f a → broken_tie s f ≡ Some a
+  one_tie None e a p = absurd (p.fails (ties_hold s f e a.row a.cell p.row p.cell))
+  one_tie (Some b) e a p = e ∙ ap Some (same_tie b a (first_tie s f b e) p)
+
 pub asking_right : AskingLaws
 asking_right = record {
   kept = λ s r f long none_i none_t. record { long = long; ties = ties_hold s f none_t; instances = all_hold s r f none_i };
-  unbroken = λ s r f k. (none_broken s r f k, none_undone s f k.ties);
+  unbroken = λ s r f k. (none_broken s r f k.instances, none_undone s f k.ties);
   instance_first = first_instance;
   tie_first = first_tie;
+  holding = λ s r f. (all_hold s r f, none_broken s r f);
+  one_instance = λ s r f broken first. one_instance s r f (broken_instance s r f) refl broken first;
+  one_tie = λ s f broken first. one_tie s f (broken_tie s f) refl broken first;
 }

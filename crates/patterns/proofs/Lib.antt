@@ -1,3 +1,4 @@
 pub mod Covering
+pub mod Placing
 pub mod Telling
 pub mod Whole

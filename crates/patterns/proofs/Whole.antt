@@ -1,6 +1,8 @@
 -- What is told item by item is what a reader hands out to its end, and that are the parts of the text.
 use Rattle.std.proofs.Common.{◌≡◌, ℕ, zero, suc, ◌+◌, ◌<◌, ◌≤◌, List, [], ◌∷◌, ◌++◌, length, Ok, Err, Option, Result, nat_le, sym, refl, ap, ◌∙◌, subst, inl, inr, ⊎_elim, arith, append-nil, append_assoc, length-append, add-one}
 use Rattle.std.proofs.lemmas.Bool.{cases_lt, cond-true, cond-false, le-leb, lt-leb}
+use Rattle.std.specs.List.{flat_map}
+use Rattle.lines.specs.Lines.{first_line}
 use Rattle.rle.specs.declared.fault.ReadCause.{ReadCause}
 use Rattle.rle.specs.declared.fault.ReadCause.TheVariants.{TooLong}
 use Rattle.rle.specs.declared.fault.ReadFault.{ReadFault}
@@ -8,19 +10,29 @@ use Rattle.rle.specs.declared.mark.Run.{Run}
 use Rattle.rle.specs.declared.phase.Cursor.{Cursor}
 use Rattle.rle.specs.declared.phase.Phase.{Phase}
 use Rattle.rle.specs.declared.phase.Phase.TheVariants.{Opening, Body, Failed}
-use Rattle.rle.specs.Items.{Head, Part, Taken, remark, header, run, ending, Finishes, ends, goes, Stops, here, later, run_items, items_of, item_start, read_item, body_item, opening_item}
+use Rattle.rle.specs.Items.{Head, Part, Taken, remark, header, run, ending, Finishes, ends, goes, Stops, here, later, run_items, items_of, item_start, read_item, body_item, opening_item, top_left}
 use Rattle.rle.specs.Laws.{Readable, Given}
-use Rattle.rle.specs.Runs.{letter_of}
+use Rattle.rle.specs.Forms.{BodyForm, HeadForm, RemarkForms, ended}
+use Rattle.rle.specs.Runs.{Inside, letter_of}
 use Rattle.rle.specs.Scans.{Scan, good, bad, past, space}
-use Rattle.rle.specs.Spots.{corner, spot_before, spot_past}
-use Rattle.rle.proofs.Bodies.{BodyView, over, ran_on, misplaced, faulty, body_view}
-use Rattle.rle.proofs.Openings.{open_view}
-use Rattle.rle.proofs.Pasts.{past_split}
-use Rattle.rle.proofs.Reading.{is_opened, took_part, reads_every, reads_only}
+use Rattle.rle.specs.Spots.{Spot, corner, spot_before, spot_past}
+use Rattle.rle.proofs.Bodies.{BodyView, ran, over, ran_on, misplaced, faulty, body_view}
+use Rattle.rle.proofs.Openings.{open_view, remark_reads}
+use Rattle.rle.proofs.Pasts.{past_past, past_split}
+use Rattle.rle.proofs.Patterns.{took_rest}
+use Rattle.rle.proofs.Reading.{is_opened, read_opening, took_part, took_phase, reads_every, reads_only}
 use Rattle.reader.specs.Calls.{answer_of, fault_at, stand_after, readable, first_phase}
 use Rattle.reader.specs.Shown.{told_part}
 use Rattle.patterns.specs.Told.{Told, told, told_on, unless_fault, blank}
-use Rattle.patterns.specs.Laws.{FaultAt, Faulty, Parts, TellingLaws}
+use Rattle.patterns.specs.Laws.{FaultAt, Faulty, TellingLaws, told_form}
+use Rattle.patterns.proofs.Placing.{told_of, heading_item_reads, name_spot, head_spot}
+
+-- what is told are these sizes, this rule and these runs
+pub record Parts (t : Told) (w h : ℕ) (rule : Option (List ℕ)) (runs : List Run) : Type 0 where
+  pub width : t.width ≡ w
+  pub height : t.height ≡ h
+  pub named : t.rule ≡ rule
+  pub marked : t.runs ≡ runs
 
 -- an item of the body that is read takes a byte
 shorter_body : (c : Cursor) (t : List ℕ) (x : Part) (q : Phase) (rest : List ℕ) (s : Scan Taken) → BodyView c t s → s ≡ good (record { part = x; phase = q }) rest → (x ≡ ending → ⊥) → length rest < length t
@@ -166,10 +178,60 @@ whole text items remarks w h rule runs short f g =
     let parts = all.2 in
     (all.0, opened text short ∙ all.1, record { width = parts.width ∙ g.width; height = parts.height ∙ g.height; named = parts.named ∙ g.named; marked = parts.marked })
 
-every_told : (remarks : List (List ℕ)) (w h : ℕ) (rule : Option (List ℕ)) (runs : List Run) (text : List ℕ) → length text ≤ 65536 → Readable remarks w h rule runs text → (t : Told) × (told text ≡ Ok t) × Parts t w h rule runs
+-- the first of the items that are handed out
+first_part : {p : Phase} {t : List ℕ} {xs : List Part} → Finishes p t xs → (x : Part) (q : Phase) (rest : List ℕ) → read_item p t ≡ good (record { part = x; phase = q }) rest → (x ≡ ending → ⊥) → (ys : List Part) × Finishes q rest ys × (xs ≡ x ∷ ys)
+first_part (ends r left e) x q rest read other =
+    let both : good (record { part = ending; phase = r }) left ≡ good (record { part = x; phase = q }) rest = sym e ∙ read in
+    absurd (other (sym (took_part (record { part = ending; phase = r }) (record { part = x; phase = q }) left rest both)))
+first_part (goes {x = y} {xs = ys} r left e last more) x q rest read other =
+    let both : ◌≡◌ {A = Scan Taken} (good (record { part = y; phase = r }) left) (good (record { part = x; phase = q }) rest) = sym e ∙ read in
+    let part : y ≡ x = took_part (record { part = y; phase = r }) (record { part = x; phase = q }) left rest both in
+    let phase : r ≡ q = took_phase (record { part = y; phase = r }) (record { part = x; phase = q }) left rest both in
+    let same : left ≡ rest = took_rest (record { part = y; phase = r }) (record { part = x; phase = q }) left rest both in
+    (ys, subst (λ z. Finishes z rest ys) phase (subst (λ z. Finishes r z ys) same more), ap (λ z. z ∷ ys) part)
+
+-- what is told from the remarks on
+abbrev from_form : (w h : ℕ) (rule : Option (List ℕ)) (runs : List Run) (line body text : List ℕ) → HeadForm w h rule line → List Run → Told
+from_form w h rule runs line body text f before = record { width = w; height = h; rule = rule; line = (spot_before text (line ++ (10 ∷ body))).line; column = (spot_before text (told_of w h rule line body f).named).column; runs = before ++ runs }
+
+form_told : (remarks : List (List ℕ)) (w h : ℕ) (rule : Option (List ℕ)) (runs : List Run) (line body : List ℕ) (f : HeadForm w h rule line) → RemarkForms remarks → BodyForm runs body → w ≤ 32 → h ≤ 32 → Inside w h 0 0 runs → (n : ℕ) (text : List ℕ) (s : Told) → length (flat_map ended remarks ++ (line ++ (10 ∷ body))) < n → told_on n text (record { rest = flat_map ended remarks ++ (line ++ (10 ∷ body)); phase = Opening }) s ≡ Ok (from_form w h rule runs line body text f s.runs)
+unfolding with_runs
+form_told remarks w h rule runs line body f rs g narrow low inside zero text s less = absurd (omega arith)
+form_told [] w h rule runs line body f rs g narrow low inside (suc n) text s less =
+    let t = line ++ (10 ∷ body) in
+    let head = told_of w h rule line body f in
+    let x = header (first_line t) head in
+    let q = Body (top_left w h) in
+    let e : read_item Opening t ≡ good (record { part = x; phase = q }) body = heading_item_reads w h rule line body f narrow low in
+    let other : x ≡ ending → ⊥ = λ z. cc in
+    let r : Readable [] w h rule runs t = record { form = record { line = line; body = body; remarked = tt; headed = f; bodied = g; whole = refl }; narrow = narrow; low = low; inside = inside } in
+    let read = reads_every [] w h rule runs t r in
+    let first = first_part read.1 x q body e other in
+    let items : x ∷ first.0 ≡ items_of [] read.2.line read.2.head runs = sym first.2 ∙ read.2.items_are in
+    let left : first.0 ≡ run_items runs = cc in
+    let spot = spot_before text t in
+    let now : Told = record { width = w; height = h; rule = rule; line = spot.line; column = (spot_before text head.named).column; runs = s.runs } in
+    step n text s Opening t x q body e ∙ body_told first.1 n text now runs left (omega (arith, shorter Opening t x q body e other, less))
+form_told (m ∷ ms) w h rule runs line body f rs g narrow low inside (suc n) text s less =
+    let rest = flat_map ended ms ++ (line ++ (10 ∷ body)) in
+    let t = (ended m ++ flat_map ended ms) ++ (line ++ (10 ∷ body)) in
+    let whole : t ≡ m ++ (10 ∷ rest) = append_assoc (ended m) (flat_map ended ms) (line ++ (10 ∷ body)) ∙ append_assoc m (10 ∷ []) rest in
+    let e : read_item Opening t ≡ good (record { part = remark m; phase = Opening }) rest = read_opening t ∙ ap opening_item whole ∙ remark_reads m rest rs.0 in
+    let other : remark m ≡ ending → ⊥ = λ z. cc in
+    step n text s Opening t (remark m) Opening rest e ∙ form_told ms w h rule runs line body f rs.1 g narrow low inside n text s (omega (arith, shorter Opening t (remark m) Opening rest e other, less))
+
+every_told : (remarks : List (List ℕ)) (w h : ℕ) (rule : Option (List ℕ)) (runs : List Run) (text : List ℕ) → length text ≤ 65536 → (r : Readable remarks w h rule runs text) → told text ≡ Ok (told_form remarks w h rule runs text r)
 every_told remarks w h rule runs text short r =
-    let read = reads_every remarks w h rule runs text r in
-    whole text read.0 remarks w h rule runs short read.1 read.2
+    let f = r.form in
+    let rest = f.line ++ (10 ∷ f.body) in
+    let all = flat_map ended remarks ++ rest in
+    let line = head_spot remarks rest text f.remarked f.whole in
+    let column = ap (λ (z : Spot). z.column) (name_spot remarks w h rule f.line f.body text f.headed f.remarked f.whole) in
+    let less : length all < length text + 1 = omega (arith, ap length f.whole) in
+    opened text short
+    ∙ ap (λ z. told_on (length text + 1) text (record { rest = z; phase = Opening }) blank) f.whole
+    ∙ form_told remarks w h rule runs f.line f.body f.headed f.remarked f.bodied r.narrow r.low r.inside (length text + 1) text blank less
+    ∙ (λ i. Ok (record { width = w; height = h; rule = rule; line = line i; column = column i; runs = runs }))
 
 only_told : (text : List ℕ) (t : Told) → told text ≡ Ok t → (length text ≤ 65536) × ((remarks : List (List ℕ)) × Readable remarks t.width t.height t.rule t.runs text)
 only_told text t is =
@@ -222,5 +284,50 @@ faults_told text fault is =
       | inr more ↦ inl (omega arith, (let both : ◌≡◌ {A = Result Told ReadFault} (Err (fault_at corner TooLong)) (Err fault) = sym (told_too_long text (omega arith)) ∙ is in cc))
     ]
 
+-- once the end is read it is read again
+still_body : (c : Cursor) (t : List ℕ) (q : Phase) (rest : List ℕ) (s : Scan Taken) → BodyView c t s → s ≡ good (record { part = ending; phase = q }) rest → (Body c ≡ q) × (t ≡ rest)
+still_body c t q rest s (over v e) f = (took_phase (record { part = ending; phase = Body c }) (record { part = ending; phase = q }) t rest f, cc)
+still_body c t q rest s (ran_on n m u v h e g) f = (let same : run (record { count = n; mark = m }) ≡ ending = took_part (ran c n m) (record { part = ending; phase = q }) v rest f in cc)
+still_body c t q rest s (misplaced u b r e n v h g) f = cc
+still_body c t q rest s (faulty cause v h) f = cc
+
+still : (p : Phase) (t : List ℕ) (q : Phase) (rest : List ℕ) → read_item p t ≡ good (record { part = ending; phase = q }) rest → read_item q rest ≡ good (record { part = ending; phase = q }) rest
+unfolding read_item
+still Opening t q rest e = ⊎_elim (λ p. cc) (λ p. cc) (is_opened t ending q rest (opening_item t) (open_view t) e)
+still (Body c) t q rest e =
+    let same = still_body c (past space t) q rest (body_item c (past space t)) (body_view c (past space t)) e in
+    ap (λ z. read_item z rest) (sym same.0) ∙ ap (λ z. body_item c (past space z)) (sym same.1) ∙ ap (body_item c) (past_past space t) ∙ e
+still (Failed cause) t q rest e = cc
+
+-- so that no fault comes after it
+never : {p : Phase} {t : List ℕ} {cause : ReadCause} {at : List ℕ} → Stops p t cause at → read_item p t ≡ good (record { part = ending; phase = p }) t → ⊥
+never {p = p} {t = t} {cause = cause} {at = at} (here e) is =
+    let both : ◌≡◌ {A = Scan Taken} (bad cause at) (good (record { part = ending; phase = p }) t) = sym e ∙ is in cc
+never {p = p} {t = t} (later x q rest e more) is =
+    let both : ◌≡◌ {A = Scan Taken} (good (record { part = ending; phase = p }) t) (good (record { part = x; phase = q }) rest) = sym is ∙ e in
+    let phase : p ≡ q = took_phase (record { part = ending; phase = p }) (record { part = x; phase = q }) t rest both in
+    let left : t ≡ rest = took_rest (record { part = ending; phase = p }) (record { part = x; phase = q }) t rest both in
+    let P : Phase → List ℕ → Type 0 = λ z l. read_item z l ≡ good (record { part = ending; phase = z }) l in
+    never more (subst (λ z. P z rest) phase (subst (P p) left is))
+
+-- a fault that a reader comes to is told
+stops_back : {p : Phase} {t : List ℕ} {cause : ReadCause} {at : List ℕ} → Stops p t cause at → (n : ℕ) (text : List ℕ) (s : Told) → length t < n → told_on n text (record { rest = t; phase = p }) s ≡ Err (fault_at (spot_before text at) cause)
+stops_back z zero text s h = absurd (omega arith)
+stops_back {p = p} {t = t} {cause = cause} {at = at} (here e) (suc n) text s h = step_bad n text s p t cause at e
+stops_back {p = p} {t = t} (later ending q rest e more) (suc n) text s h = absurd (never more (still p t q rest e))
+stops_back {p = p} {t = t} (later (remark l) q rest e more) (suc n) text s h =
+    let other : remark l ≡ ending → ⊥ = λ z. cc in
+    step n text s p t (remark l) q rest e ∙ stops_back {p = q} {t = rest} more n text s (omega (arith, shorter p t (remark l) q rest e other, h))
+stops_back {p = p} {t = t} (later (header l head) q rest e more) (suc n) text s h =
+    let other : header l head ≡ ending → ⊥ = λ z. cc in
+    step n text s p t (header l head) q rest e ∙ stops_back {p = q} {t = rest} more n text _ (omega (arith, shorter p t (header l head) q rest e other, h))
+stops_back {p = p} {t = t} (later (run m) q rest e more) (suc n) text s h =
+    let other : run m ≡ ending → ⊥ = λ z. cc in
+    step n text s p t (run m) q rest e ∙ stops_back {p = q} {t = rest} more n text _ (omega (arith, shorter p t (run m) q rest e other, h))
+
+one_fault : (text : List ℕ) (fault : ReadFault) → Faulty text fault → told text ≡ Err fault
+one_fault text fault (inl long) = told_too_long text long.0 ∙ ap Err (sym long.1)
+one_fault text fault (inr (short, at)) = opened text short ∙ stops_back at.1 (length text + 1) text blank (omega arith) ∙ ap Err (sym at.2)
+
 pub telling_right : TellingLaws
-telling_right = record { every = every_told; only = only_told; faulty = faults_told }
+telling_right = record { every = every_told; only = only_told; faulty = faults_told; one_fault = one_fault }

@@ -9,14 +9,14 @@ use Rattle.rle.specs.Items.{Stops}
 use Rattle.rle.specs.Spots.{corner, spot_before}
 use Rattle.reader.specs.Calls.{fault_at}
 use Rattle.rle.specs.Laws.{Readable}
+use Rattle.patterns.specs.Places.{name_place}
 use Rattle.patterns.specs.Told.{Told, told}
 
--- what is told are these sizes, this rule and these runs
-pub record Parts (t : Told) (w h : ℕ) (rule : Option (List ℕ)) (runs : List Run) : Type 0 where
-  pub width : t.width ≡ w
-  pub height : t.height ≡ h
-  pub named : t.rule ≡ rule
-  pub marked : t.runs ≡ runs
+-- what is told of a text of the grammar: its sizes, its rule and where that starts, or would start, and its runs
+abbrev pub told_form : (remarks : List (List ℕ)) (w h : ℕ) (rule : Option (List ℕ)) (runs : List Run) (text : List ℕ) → Readable remarks w h rule runs text → Told
+told_form remarks w h rule runs text r =
+    let place = name_place remarks w h rule r.form.line r.form.headed in
+    record { width = w; height = h; rule = rule; line = place.line; column = place.column; runs = runs }
 
 -- a reader that stands in a phase before the rest of a text comes to this fault, which stands where the bytes from the fault on start
 abbrev pub FaultAt : List ℕ → Phase → List ℕ → ReadFault → Type 0
@@ -27,8 +27,9 @@ abbrev pub Faulty : List ℕ → ReadFault → Type 0
 Faulty text fault = ((65536 < length text) × (fault ≡ fault_at corner TooLong)) ⊎ ((length text ≤ 65536) × FaultAt text Opening text fault)
 
 -- a text of at most 65,536 bytes that is of the grammar, whose sizes are at most 32 and whose runs lie in its box, tells its parts;
--- no other text tells anything, and what is told in its place is its fault
+-- no other text tells anything, and what is told in its place is its fault, which is one
 pub record TellingLaws : Type 0 where
-  pub every : (remarks : List (List ℕ)) (w h : ℕ) (rule : Option (List ℕ)) (runs : List Run) (text : List ℕ) → length text ≤ 65536 → Readable remarks w h rule runs text → (t : Told) × (told text ≡ Ok t) × Parts t w h rule runs
+  pub every : (remarks : List (List ℕ)) (w h : ℕ) (rule : Option (List ℕ)) (runs : List Run) (text : List ℕ) → length text ≤ 65536 → (r : Readable remarks w h rule runs text) → told text ≡ Ok (told_form remarks w h rule runs text r)
   pub only : (text : List ℕ) (t : Told) → told text ≡ Ok t → (length text ≤ 65536) × ((remarks : List (List ℕ)) × Readable remarks t.width t.height t.rule t.runs text)
   pub faulty : (text : List ℕ) (fault : ReadFault) → told text ≡ Err fault → Faulty text fault
+  pub one_fault : (text : List ℕ) (fault : ReadFault) → Faulty text fault → told text ≡ Err fault

@@ -1,3 +1,4 @@
 pub mod Told
 pub mod Laid
+pub mod Places
 pub mod Laws

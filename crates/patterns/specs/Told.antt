@@ -6,8 +6,6 @@ use Rattle.rle.specs.declared.mark.Run.{Run}
 use Rattle.rle.specs.Items.{item_start, read_item}
 use Rattle.reader.specs.Calls.{LocatedShown, Stand, answer_of, stand_after, readable, first_phase}
 use Rattle.reader.specs.Shown.{Shown, remarked, headed, marks, over}
-use Rattle.patterns.specs.declared.fault.PatternFault.{PatternFault}
-use Rattle.patterns.specs.declared.fault.PatternFault.TheVariants.{Memory, Read}
 use Rattle.patterns.specs.declared.pattern.Pattern.{Pattern}
 
 -- how many columns and rows a pattern has, the rule's text if one is named, where that starts or would start, and the runs
@@ -54,12 +52,27 @@ told_on (suc n) text s t = unless_fault t (told_on n text (stand_after (read_ite
 abbrev pub told : List ℕ → Result Told ReadFault
 told text = told_on (length text + 1) (readable text) (record { rest = readable text; phase = first_phase text }) blank
 
--- what a pattern that is handed out shows
-abbrev pub shown : Pattern → Told
-shown p = record { width = p.width; height = p.height; rule = option_map (λ s. s.now) p.rule; line = p.line; column = p.column; runs = p.runs.items }
+-- the runs of what is told; a text at fault has none
+abbrev pub runs_in : Result Told ReadFault → List Run
+runs_in (Ok t) = t.runs
+runs_in (Err fault) = []
 
--- the pattern that is told or the fault; where memory is wanting neither is said
-abbrev pub Tells : List ℕ → Result Pattern PatternFault → Type 0
+-- what a pattern that is handed out shows, with these runs
+abbrev pub shown_with : Pattern → List Run → Told
+shown_with p runs = record { width = p.width; height = p.height; rule = option_map (λ s. s.now) p.rule; line = p.line; column = p.column; runs = runs }
+
+-- and with those of its text
+abbrev pub shown : Pattern → Told
+shown p = shown_with p (runs_in (told p.text.now))
+
+-- some runs, and one more where the next item is one
+abbrev pub runs_after : List Run → Shown → List Run
+runs_after runs (remarked bytes) = runs
+runs_after runs (headed h) = runs
+runs_after runs (marks r) = runs ++ r ∷ []
+runs_after runs over = runs
+
+-- what a text tells is a pattern, or the text is at fault
+abbrev pub Tells : List ℕ → Result Pattern ReadFault → Type 0
 Tells text (Ok p) = told text ≡ Ok (shown p)
-Tells text (Err (Read fault)) = told text ≡ Err fault
-Tells text (Err (Memory e)) = Unit {0}
+Tells text (Err fault) = told text ≡ Err fault

@@ -1,13 +1,11 @@
 // What an RLE text tells when it is read whole, and where its pattern lies in a box.
 #![tactic(auto)]
 
-mod fault;
 mod laws;
 mod laying;
 mod pattern;
 mod reading;
 
-pub use fault::PatternFault;
 pub use laws::telling_stands;
 pub use laying::laid;
 pub use pattern::Pattern;

@@ -1,54 +1,52 @@
-ghost use Rattle.patterns.specs.Told.{blank, shown, with_item};
+ghost use Rattle.patterns.specs.Told.{blank, runs_after, shown_with, with_item};
 ghost use Rattle.reader.specs.Shown.{shown_item};
-ghost use Rattle.std.specs.Prelude.{◌≡◌, OnOk};
+ghost use Rattle.rle.specs.declared.mark.Run.{Run};
+ghost use Rattle.std.specs.Prelude.{◌≡◌, List, []};
 
 use reader::{Item, Located};
-use rle::Run;
-use std::alloc::{AllocError, Global};
 
-// What a text tells: how many columns and rows its pattern has, the rule that it names, and its runs.
-#[derive(Drop)]
+/// A text that tells a pattern, and what it tells: how many columns and rows the pattern has, and the rule that it
+/// names. Its runs stay in the text until `runs` reads them again, so that reading a pattern takes no memory.
+#[derive(Clone, Copy)]
 pub struct Pattern<'a> {
+    pub(crate) text: &'a [u8],
     pub width: u32,
     pub height: u32,
-    // without the blanks around it
+    /// without the blanks around it
     pub rule: Option<&'a [u8]>,
-    // where the rule starts, or would start
+    /// the line, from 1, where the rule starts, or would start
     pub line: u32,
+    /// the column, from 1, where it does
     pub column: u32,
-    pub runs: Vec<Run>,
 }
 
 impl<'a> Pattern<'a> {
-    // Nothing is told yet.
-    pub(crate) fn blank(heap: Global) -> Pattern<'a>
-        ensures { shown result ≡ blank }
+    // Nothing is told of a text yet.
+    pub(crate) fn blank(text: &'a [u8]) -> Pattern<'a>
+        ensures text { result.text.now ≡ text.now }
+        ensures nothing { shown_with result [] ≡ blank }
     {
         Pattern {
+            text,
             width: 0,
             height: 0,
             rule: None,
             line: 1,
             column: 1,
-            runs: Vec::new(heap),
         }
     }
 
-    // Takes in what an item tells.
-    pub(crate) fn take(&mut self, located: Located<'a>) -> Result<(), AllocError>
-        ensures { OnOk result (shown self.new ≡ with_item (shown self.old) located.entry.line (shown_item located.entry.item)) }
+    // Takes in what an item tells of the sizes and the rule.
+    pub(crate) fn take(&mut self, located: Located<'a>)
+        ensures text { self.new.text.now ≡ self.old.text.now }
+        ensures more { (runs : List Run) → shown_with self.new (runs_after runs (shown_item located.entry.item)) ≡ with_item (shown_with self.old runs) located.entry.line (shown_item located.entry.item) }
     {
-        match located.item {
-            Item::Remark(_) | Item::End => {}
-            Item::Heading(heading) => {
-                self.width = heading.width;
-                self.height = heading.height;
-                self.rule = heading.rule;
-                self.line = located.line;
-                self.column = heading.rule_column;
-            }
-            Item::Run(run) => self.runs.push(run)?,
+        if let Item::Heading(heading) = located.item {
+            self.width = heading.width;
+            self.height = heading.height;
+            self.rule = heading.rule;
+            self.line = located.line;
+            self.column = heading.rule_column;
         }
-        Ok(())
     }
 }
