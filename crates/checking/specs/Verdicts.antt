@@ -63,7 +63,7 @@ filling s r text p = worked_out s r (laid s.frame p.runs)
 pub data VerdictOn (s : Surface) (r : Rule) (text : List ℕ) : Result (List Bool) CheckFault → Type 0 where
   -- 11: the space has more than 8 rows of ties
   many_rows : 8 < s.rows → VerdictOn s r text (Err Rows)
-  -- 18 to 22: the text is at fault, and this is its fault
+  -- 18 to 22: the text is at fault; this is its first fault, and where that stands
   misread : (fault : ReadFault) → s.rows ≤ 8 → Faulty text fault → VerdictOn s r text (Err (Read fault))
   -- 5, 6: the text is read, and the rule that it names is none; it is told where that starts, or would start
   no_rule : (p : Legible text) (cause : RuleFault) → s.rows ≤ 8 → NoRule (rule_text p.rule) cause → VerdictOn s r text (Err (RuleFaulty (record { line = (rule_place text p).line; column = (rule_place text p).column; cause = cause })))

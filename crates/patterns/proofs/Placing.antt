@@ -8,17 +8,18 @@ use Rattle.std.proofs.lemmas.Bool.Decides.{nat_tests}
 use Rattle.lines.specs.Lines.{blank, first_line, trimmed}
 use Rattle.rle.specs.declared.phase.Step.{Step}
 use Rattle.rle.specs.declared.phase.Phase.TheVariants.{Opening}
-use Rattle.rle.specs.Forms.{Each, on_line, Gap, Spells, Numeral, RuleForm, HeadForm, RemarkForm, RemarkForms, ended}
+use Rattle.rle.specs.Laws.{OnLines, Placed}
+use Rattle.rle.specs.Forms.{Each, NoDigit, on_line, Gap, Spells, Numeral, RuleForm, HeadForm, RemarkForm, RemarkForms, ended}
 use Rattle.rle.specs.Items.{Head, Taken, before_width, before_height, before_rule, ruled, unruled, tailed, heading, opening_item, read_item}
 use Rattle.rle.specs.Scans.{Scan, good, and_then, past, byte_of, is_loose, digit, in_turn, size}
 use Rattle.rle.specs.Spots.{Spot, corner, next_spot, spot_past, spot_before}
 use Rattle.rle.proofs.Lines.{first_of, over_of, each_both, blanks_on_line, trimmed_over, solid_line}
-use Rattle.rle.proofs.Numerals.{NoDigit, spelt, numeral_solid, size_reads, size_judged}
+use Rattle.rle.proofs.Numerals.{spelt, numeral_solid, size_reads, size_judged}
 use Rattle.rle.proofs.Openings.{took_heading}
 use Rattle.rle.proofs.Pasts.{past_over, past_stop}
 use Rattle.rle.proofs.Reading.{read_opening}
 use Rattle.rle.proofs.Turns.{turn_reads}
-use Rattle.reader.proofs.Places.{spot_append}
+use Rattle.rle.proofs.Places.{spot_append}
 use Rattle.patterns.specs.Places.{before_name, after_name, lead, name_place}
 
 -- no byte of a step is a newline
@@ -81,21 +82,41 @@ none_past : (s : Spot) → spot_past s [] ≡ s
 unfolding spot_past
 none_past s = refl
 
--- each remark is a line
-pub spot_remarks : (line : ℕ) (remarks : List (List ℕ)) → RemarkForms remarks → spot_past (at line 1) (flat_map ended remarks) ≡ at (line + length remarks) 1
-spot_remarks line [] h = none_past (at line 1) ∙ ap (λ n. at n 1) (sym (add-zero line))
-spot_remarks line (r ∷ rs) h =
+-- whole lines
+spot_lines : (line : ℕ) (lines : List (List ℕ)) → OnLines lines → spot_past (at line 1) (flat_map ended lines) ≡ at (line + length lines) 1
+spot_lines line [] h = none_past (at line 1) ∙ ap (λ n. at n 1) (sym (add-zero line))
+spot_lines line (r ∷ rs) h =
     let sum : line + 1 + length rs ≡ line + length (r ∷ rs) = omega arith in
     spot_append (at line 1) (ended r) (flat_map ended rs)
-    ∙ ap (λ z. spot_past z (flat_map ended rs)) (spot_append (at line 1) r (10 ∷ []) ∙ ap (λ z. spot_past z (10 ∷ [])) (spot_on line 1 r (remark_on_line r h.0)) ∙ newline line (1 + length r))
-    ∙ spot_remarks (line + 1) rs h.1
+    ∙ ap (λ z. spot_past z (flat_map ended rs)) (spot_append (at line 1) r (10 ∷ []) ∙ ap (λ z. spot_past z (10 ∷ [])) (spot_on line 1 r h.0) ∙ newline line (1 + length r))
+    ∙ spot_lines (line + 1) rs h.1
     ∙ ap (λ n. at n 1) sum
+
+-- each remark is a line
+remark_lines : (remarks : List (List ℕ)) → RemarkForms remarks → OnLines remarks
+remark_lines [] h = tt
+remark_lines (r ∷ rs) h = (remark_on_line r h.0, remark_lines rs h.1)
+
+spot_remarks : (line : ℕ) (remarks : List (List ℕ)) → RemarkForms remarks → spot_past (at line 1) (flat_map ended remarks) ≡ at (line + length remarks) 1
+spot_remarks line remarks h = spot_lines line remarks (remark_lines remarks h)
 
 -- what stands before the last bytes of a text leads to them
 pub spot_of : (text before rest : List ℕ) → text ≡ before ++ rest → spot_before text rest ≡ spot_past corner before
 spot_of text before rest e =
     let count : length text - length rest ≡ length before = omega (arith, ap length e, length-append before rest) in
     ap (λ n. spot_past corner (take n text)) count ∙ ap (λ z. spot_past corner (take (length before) z)) e ∙ ap (spot_past corner) (take-append_seam before rest)
+
+-- the last bytes of a text start at one line and column
+pub placed_spot : (text rest : List ℕ) (spot : Spot) → Placed text rest spot → spot_before text rest ≡ spot
+placed_spot text rest spot p =
+    let lines = flat_map ended p.lines in
+    let line : 1 + length p.lines ≡ spot.line = omega (arith, p.line) in
+    let column : 1 + length p.part ≡ spot.column = omega (arith, p.column) in
+    spot_of text (lines ++ p.part) rest (p.whole ∙ sym (append_assoc lines p.part rest))
+    ∙ spot_append corner lines p.part
+    ∙ ap (λ z. spot_past z p.part) (spot_lines 1 p.lines p.lined)
+    ∙ spot_on (1 + length p.lines) 1 p.part p.parted
+    ∙ (λ i. at (line i) (column i))
 
 -- what follows a height, split where the rule starts
 pub tail_split : (rule : Option (List ℕ)) (tail : List ℕ) (form : RuleForm rule tail) → tail ≡ before_name rule tail form ++ after_name rule tail form

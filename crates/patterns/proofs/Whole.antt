@@ -11,7 +11,8 @@ use Rattle.rle.specs.declared.phase.Cursor.{Cursor}
 use Rattle.rle.specs.declared.phase.Phase.{Phase}
 use Rattle.rle.specs.declared.phase.Phase.TheVariants.{Opening, Body, Failed}
 use Rattle.rle.specs.Items.{Head, Part, Taken, remark, header, run, ending, Finishes, ends, goes, Stops, here, later, run_items, items_of, item_start, read_item, body_item, opening_item, top_left}
-use Rattle.rle.specs.Laws.{Readable, Given}
+use Rattle.rle.specs.Laws.{Readable, Given, Placed}
+use Rattle.rle.proofs.Places.{fault_placed}
 use Rattle.rle.specs.Forms.{BodyForm, HeadForm, RemarkForms, ended}
 use Rattle.rle.specs.Runs.{Inside, letter_of}
 use Rattle.rle.specs.Scans.{Scan, good, bad, past, space}
@@ -24,8 +25,9 @@ use Rattle.rle.proofs.Reading.{is_opened, read_opening, took_part, took_phase, r
 use Rattle.reader.specs.Calls.{answer_of, fault_at, stand_after, readable, first_phase}
 use Rattle.reader.specs.Shown.{told_part}
 use Rattle.patterns.specs.Told.{Told, told, told_on, unless_fault, blank}
-use Rattle.patterns.specs.Laws.{FaultAt, Faulty, TellingLaws, told_form}
-use Rattle.patterns.proofs.Placing.{told_of, heading_item_reads, name_spot, head_spot}
+use Rattle.patterns.specs.Laws.{Faulty, FirstAt, TellingLaws, told_form}
+use Rattle.patterns.proofs.Faults.{first_stops, read_no_fault, stops_first}
+use Rattle.patterns.proofs.Placing.{told_of, heading_item_reads, name_spot, head_spot, placed_spot}
 
 -- what is told are these sizes, this rule and these runs
 pub record Parts (t : Told) (w h : ℕ) (rule : Option (List ℕ)) (runs : List Run) : Type 0 where
@@ -249,6 +251,10 @@ only_told text t is =
       | inr more ↦ absurd (too_long text t (omega arith) is)
     ]
 
+-- a reader that stands in a phase before the rest of a text comes to this fault, which stands where the bytes from the fault on start
+abbrev FaultAt : List ℕ → Phase → List ℕ → ReadFault → Type 0
+FaultAt text p t fault = (at : List ℕ) × Stops p t fault.cause at × (fault ≡ fault_at (spot_before text at) fault.cause)
+
 -- what is told as a fault is the first of the items, at its place
 part_stops : (n : ℕ) (text : List ℕ) (p : Phase) (t : List ℕ) (s : Told) (fault : ReadFault) → length t < suc n → ((p : Phase) (t : List ℕ) (s : Told) → length t < n → told_on n text (record { rest = t; phase = p }) s ≡ Err fault → FaultAt text p t fault) → (x : Part) (q : Phase) (rest : List ℕ) → read_item p t ≡ good (record { part = x; phase = q }) rest → told_on (suc n) text (record { rest = t; phase = p }) s ≡ Err fault → FaultAt text p t fault
 part_stops n text p t s fault h ind ending q rest e is = (let both : ◌≡◌ {A = Result Told ReadFault} (Ok s) (Err fault) = sym (step n text s p t ending q rest e) ∙ is in cc)
@@ -277,10 +283,23 @@ stops_told : (n : ℕ) (text : List ℕ) (p : Phase) (t : List ℕ) (s : Told) (
 stops_told zero text p t s fault h is = absurd (omega arith)
 stops_told (suc n) text p t s fault h is = scan_stops n text p t s fault h (λ p' t' s'. stops_told n text p' t' s' fault) (read_item p t) refl is
 
+-- where a fault stands
+abbrev spot_as : ReadFault → Spot
+spot_as fault = record { line = fault.line; column = fault.column }
+
+-- a fault of a text that is not too long
+short_stops : (text : List ℕ) (fault : ReadFault) → length text ≤ 65536 → told text ≡ Err fault → FaultAt text Opening text fault
+short_stops text fault short is = stops_told (length text + 1) text Opening text blank fault (omega arith) (sym (opened text short) ∙ is)
+
 faults_told : (text : List ℕ) (fault : ReadFault) → told text ≡ Err fault → Faulty text fault
 faults_told text fault is =
     elim (cases_lt (length text) 65537) [
-      | inl less ↦ inr (omega arith, stops_told (length text + 1) text Opening text blank fault (omega arith) (sym (opened text (omega arith)) ∙ is))
+      | inl less ↦
+          (let short : length text ≤ 65536 = omega arith in
+          let at = short_stops text fault short is in
+          let first = stops_first text fault.cause at.0 short at.1 in
+          let spot : spot_before text at.0 ≡ record { line = fault.line; column = fault.column } = ap (λ (z : ReadFault). spot_as z) (sym at.2) in
+          inr (short, (at.0, first, subst (Placed text at.0) spot (fault_placed text fault.cause at.0 first.fault))))
       | inr more ↦ inl (omega arith, (let both : ◌≡◌ {A = Result Told ReadFault} (Err (fault_at corner TooLong)) (Err fault) = sym (told_too_long text (omega arith)) ∙ is in cc))
     ]
 
@@ -325,9 +344,25 @@ stops_back {p = p} {t = t} (later (run m) q rest e more) (suc n) text s h =
     let other : run m ≡ ending → ⊥ = λ z. cc in
     step n text s p t (run m) q rest e ∙ stops_back {p = q} {t = rest} more n text _ (omega (arith, shorter p t (run m) q rest e other, h))
 
+told_back : (text : List ℕ) (cause : ReadCause) (at : List ℕ) → length text ≤ 65536 → Stops Opening text cause at → told text ≡ Err (fault_at (spot_before text at) cause)
+told_back text cause at short s = opened text short ∙ stops_back s (length text + 1) text blank (omega arith)
+
+first_told : (text : List ℕ) (fault : ReadFault) (at : List ℕ) → length text ≤ 65536 → FirstAt text fault.cause at → Placed text at (spot_as fault) → (z : Result Told ReadFault) → told text ≡ z → told text ≡ Err fault
+first_told text fault at short first placed (Ok t) is =
+    let r = (only_told text t is).1 in
+    let form = r.1.form in
+    let never : (c : ReadCause) (a : List ℕ) → Stops Opening text c a → ⊥ = λ c a s.
+    let both : ◌≡◌ {A = Result Told ReadFault} (Err (fault_at (spot_before text a) c)) (Ok t) = sym (told_back text c a short s) ∙ is in
+    cc in
+    absurd (read_no_fault text fault.cause at short (r.0, t.width, t.height, t.rule, t.runs, form) never first.fault)
+first_told text fault at short first placed (Err other) is =
+    let there = short_stops text other short is in
+    let s = first_stops text fault.cause other.cause at there.0 short first there.1 in
+    told_back text fault.cause at short s ∙ ap (λ z. Err (fault_at z fault.cause)) (placed_spot text at (spot_as fault) placed)
+
 one_fault : (text : List ℕ) (fault : ReadFault) → Faulty text fault → told text ≡ Err fault
 one_fault text fault (inl long) = told_too_long text long.0 ∙ ap Err (sym long.1)
-one_fault text fault (inr (short, at)) = opened text short ∙ stops_back at.1 (length text + 1) text blank (omega arith) ∙ ap Err (sym at.2)
+one_fault text fault (inr (short, (at, first, placed))) = first_told text fault at short first placed (told text) refl
 
 pub telling_right : TellingLaws
 telling_right = record { every = every_told; only = only_told; faulty = faults_told; one_fault = one_fault }

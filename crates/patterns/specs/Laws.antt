@@ -1,14 +1,12 @@
 -- The law of what a text tells, in the words of the grammar.
 use Rattle.std.specs.Prelude.{◌≡◌, ℕ, ◌<◌, ◌≤◌, ◌⊎◌, List, length, Ok, Err, Option}
+use Rattle.rle.specs.declared.fault.ReadCause.{ReadCause}
 use Rattle.rle.specs.declared.fault.ReadCause.TheVariants.{TooLong}
 use Rattle.rle.specs.declared.fault.ReadFault.{ReadFault}
 use Rattle.rle.specs.declared.mark.Run.{Run}
-use Rattle.rle.specs.declared.phase.Phase.{Phase}
-use Rattle.rle.specs.declared.phase.Phase.TheVariants.{Opening}
-use Rattle.rle.specs.Items.{Stops}
-use Rattle.rle.specs.Spots.{corner, spot_before}
+use Rattle.rle.specs.Spots.{corner}
 use Rattle.reader.specs.Calls.{fault_at}
-use Rattle.rle.specs.Laws.{Readable}
+use Rattle.rle.specs.Laws.{AtFault, Placed, Readable}
 use Rattle.patterns.specs.Places.{name_place}
 use Rattle.patterns.specs.Told.{Told, told}
 
@@ -18,13 +16,17 @@ told_form remarks w h rule runs text r =
     let place = name_place remarks w h rule r.form.line r.form.headed in
     record { width = w; height = h; rule = rule; line = place.line; column = place.column; runs = runs }
 
--- a reader that stands in a phase before the rest of a text comes to this fault, which stands where the bytes from the fault on start
-abbrev pub FaultAt : List ℕ → Phase → List ℕ → ReadFault → Type 0
-FaultAt text p t fault = (at : List ℕ) × Stops p t fault.cause at × (fault ≡ fault_at (spot_before text at) fault.cause)
+-- from these bytes on a text is at fault for a cause, and from no byte before them for any
+pub record FirstAt (text : List ℕ) (cause : ReadCause) (at : List ℕ) : Type 0 where
+  pub fault : AtFault text cause at
+  pub first : (other : ReadCause) (there : List ℕ) → AtFault text other there → length there ≤ length at
 
--- a text is at fault: it is too long, which stands at its first byte, or a reader comes to this fault
+-- a text is at fault: it is too long, which is told at its first byte; or it is not, and this is its first fault, told at the line
+-- and the column where that stands
 abbrev pub Faulty : List ℕ → ReadFault → Type 0
-Faulty text fault = ((65536 < length text) × (fault ≡ fault_at corner TooLong)) ⊎ ((length text ≤ 65536) × FaultAt text Opening text fault)
+Faulty text fault =
+    ((65536 < length text) × (fault ≡ fault_at corner TooLong))
+    ⊎ ((length text ≤ 65536) × ((at : List ℕ) × FirstAt text fault.cause at × Placed text at (record { line = fault.line; column = fault.column })))
 
 -- a text of at most 65,536 bytes that is of the grammar, whose sizes are at most 32 and whose runs lie in its box, tells its parts;
 -- no other text tells anything, and what is told in its place is its fault, which is one
