@@ -19,6 +19,8 @@ impl Sink for Kept {
 
     ghost rests = { λ old new. new ≡ old };
 
+    ghost fails = { λ _ _ _. Unit {0} };
+
     fn take(&mut self, text: &[u8]) -> Result<(), Closed> {
         self.bytes.extend_from_slice(text).map_err(|_| Closed)
     }

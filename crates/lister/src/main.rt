@@ -38,6 +38,8 @@ impl Sink for Printer<'_> {
 
     ghost rests = { λ _ _. Unit {0} };
 
+    ghost fails = { λ _ _ _. Unit {0} };
+
     fn take(&mut self, text: &[u8]) -> Result<(), Closed> {
         if self.held.len() >= HELD {
             self.print()?;

@@ -1,1 +1,3 @@
 mod Pages
+mod Rooms
+mod Spaces

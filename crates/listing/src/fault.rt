@@ -1,5 +1,6 @@
+ghost use Rattle.listing.specs.Faults.{list_number, list_words};
 ghost use Rattle.listing.specs.declared.fault.ListFault.TheVariants as listing;
-ghost use Rattle.std.specs.Prelude.{◌≡◌};
+ghost use Rattle.std.specs.Prelude.{◌≡◌, Some};
 
 use crate::sink::Closed;
 use calls::CallFault;
@@ -7,15 +8,28 @@ use std::error::Error;
 use std::fmt;
 use texts::PageFault;
 
-// Why a page was not listed to its end.
+/// Why a page was not listed to its end.
 #[derive(Clone, Copy, PartialEq, Eq, Debug)]
 pub enum ListFault {
-    // the search refused a call
+    /// the search refused a call
     Call(CallFault),
-    // the last line found no room
+    /// the last line found no room
     Foot(PageFault),
-    // the sink takes no more
+    /// the sink takes no more
     Closed,
+}
+
+impl ListFault {
+    /// The number that a user sees; none where memory is wanting or the sink takes no more.
+    pub fn number(&self) -> Option<u32>
+        ensures { result ≡ list_number self.now }
+    {
+        match self {
+            ListFault::Call(fault) => fault.number(),
+            ListFault::Foot(fault) => Some(fault.number()),
+            ListFault::Closed => None,
+        }
+    }
 }
 
 // Each `From` is written out and not derived by thiserror, so that a clause knows which case `?` gives.
@@ -45,6 +59,8 @@ impl From<Closed> for ListFault {
 
 // What went wrong with the machine; the refusals of a search are a mistake of its caller.
 impl fmt::Display for ListFault {
+    ghost output = { λ fault. Some (list_words fault) };
+
     fn fmt<W: fmt::Write>(&self, f: &mut fmt::Formatter<W>) -> fmt::Result {
         match self {
             ListFault::Closed => write!(f, "the output is closed"),

@@ -4,7 +4,9 @@
 mod fault;
 mod page;
 mod sink;
+mod space;
 
 pub use fault::ListFault;
 pub use page::{PAGE_SIZE, list_page};
 pub use sink::{Closed, Sink};
+pub use space::list_space;

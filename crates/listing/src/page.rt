@@ -1,11 +1,15 @@
-ghost use Rattle.std.specs.Prelude.{◌≡◌, ℕ, ◌<◌, List, Bool, false, Some, [], ◌∷◌, IfOk, OnOk, is_none};
+ghost use Rattle.std.specs.Prelude.{◌≡◌, ℕ, ◌<◌, ◌≤◌, List, Bool, false, Some, [], ◌∷◌, length, IfOk, IfErr, OnOk, OnErr, is_none};
 ghost use Rattle.rules.specs.declared.rule.Rule.{Rule};
 ghost use Rattle.rolls.specs.Rolls.{Surface};
+ghost use Rattle.pages.specs.declared.fault.PageFault.TheVariants.{Short};
 ghost use Rattle.printing.specs.Printed.{found_line};
 ghost use Rattle.search.specs.Calls.{left_in};
-ghost use Rattle.calls.specs.Histories.{Keeps};
-ghost use Rattle.calls.specs.Ledgers.{Book, new_book, tally_of, text_in};
-ghost use Rattle.listing.specs.Handing.{Handed, PageBegun, PageHanded, WentOn};
+ghost use Rattle.search.specs.declared.fault.WriteFault.TheVariants.{Page};
+ghost use Rattle.calls.specs.Histories.{Keeps, Stands};
+ghost use Rattle.calls.specs.Ledgers.{Book, Granted, Ledger, tally_of, text_in};
+ghost use Rattle.calls.specs.declared.fault.CallFault.TheVariants.{Write};
+ghost use Rattle.listing.specs.declared.fault.ListFault.TheVariants as listing;
+ghost use Rattle.listing.specs.Handing.{BegunBy, Handed, RanBy, TextHanded, WentOn, text_room};
 
 use crate::fault::ListFault;
 use crate::sink::{Closed, Sink};
@@ -13,16 +17,18 @@ use calls::{Call, Reply, perform};
 use printing::write_found;
 use search::{Answer, Search};
 
-// Holds every text of a find: 32 rows of 32 cells that take turns and the heading are 1,101 bytes, as
-// docs/FORMATS.md reckons. That is not proved: the room in which `texts` puts it together is larger.
-pub const PAGE_SIZE: usize = 2048;
+/// How many bytes a page has that has room for every text.
+pub const PAGE_SIZE: usize = 2_048;
 
 // How many steps are taken before the sink may pass on what it holds.
 const STRIDE: u32 = 20_000;
 
 // The steps that are left before the next rest, which is taken when there are none.
 fn rested<S: Sink>(left: u32, taken: u32, sink: &mut S) -> Result<u32, Closed>
-    ensures { OnOk result (Handed S.Sink.takes S.Sink.rests sink.old [] sink.new) }
+    requires { Granted left }
+    ensures granted { IfOk result Granted }
+    ensures rested { OnOk result (Handed S.Sink.takes S.Sink.rests sink.old [] sink.new) }
+    ensures failed { OnErr result (S.Sink.fails sink.old [] sink.new) }
 {
     match left.saturating_sub(taken) {
         0 => {
@@ -35,9 +41,9 @@ fn rested<S: Sink>(left: u32, taken: u32, sink: &mut S) -> Result<u32, Closed>
 
 // Hands the find on.
 fn hand_find<S: Sink>(search: &mut Search, page: &mut [u8], sink: &mut S) -> Result<(), ListFault>
-    ensures same { IfOk result (λ _. search.new ≡ search.old) }
+    ensures same { search.new ≡ search.old }
     ensures handed { (s : Surface) (rule : Rule) (cell : ℕ → ℕ) (b : Book) (f : List Bool) → Keeps s rule cell b search.old → b.find ≡ Some f →
-        OnOk result (S.Sink.takes sink.old (text_in s rule f) sink.new) }
+        TextHanded S.Sink.takes S.Sink.rests S.Sink.fails (listing.Call (Write (Page Short))) (text_in s rule f) page.old sink.old result page.new sink.new }
 {
     let write: Call = Call::Write(0);
     let Reply::Wrote(end) = perform(search, &write, page)? else {
@@ -49,8 +55,9 @@ fn hand_find<S: Sink>(search: &mut Search, page: &mut [u8], sink: &mut S) -> Res
 
 // Hands the last line on: how many finds there were.
 fn hand_foot<S: Sink>(search: &mut Search, page: &mut [u8], sink: &mut S) -> Result<(), ListFault>
-    ensures { (s : Surface) (rule : Rule) (cell : ℕ → ℕ) (b : Book) → Keeps s rule cell b search.old →
-        OnOk result (Handed S.Sink.takes S.Sink.rests sink.old (found_line (tally_of b.told) ∷ []) sink.new) }
+    ensures same { search.new ≡ search.old }
+    ensures handed { (s : Surface) (rule : Rule) (cell : ℕ → ℕ) (b : Book) → Keeps s rule cell b search.old →
+        TextHanded S.Sink.takes S.Sink.rests S.Sink.fails (listing.Foot Short) (found_line (tally_of b.told)) page.old sink.old result page.new sink.new }
 {
     let tally: Call = Call::Tally;
     let Reply::Counted(finds) = perform(search, &tally, page)? else {
@@ -70,9 +77,11 @@ fn go_on<S: Sink>(
     left: u32,
     sink: &mut S,
 ) -> Result<Option<u32>, ListFault>
+    requires { Granted left }
+    ensures granted { (n : ℕ) → result ≡ Ok (Some n) → Granted n }
     ensures fewer { IfOk result (λ next. is_none next ≡ false → left_in search.new < left_in search.old) }
-    ensures went { (s : Surface) (rule : Rule) (cell : ℕ → ℕ) (from : S) → PageBegun S.Sink.takes S.Sink.rests s rule cell search.old from sink.old →
-        IfOk result (λ next. WentOn S.Sink.takes S.Sink.rests s rule cell search.new from sink.new (is_none next)) }
+    ensures went { (l : Ledger) (p : List ℕ) (from : S) → BegunBy S.Sink.takes S.Sink.rests l p from search.old page.old sink.old →
+        WentOn S.Sink.takes S.Sink.rests S.Sink.fails l p from result search.new page.new sink.new }
 {
     let go: Call = Call::Go(left);
     let Reply::Went(answer) = perform(search, &go, page)? else {
@@ -89,15 +98,19 @@ fn go_on<S: Sink>(
     Ok(Some(rested(left, answer.steps(), sink)?))
 }
 
-// Runs a search to its end: every find is handed to the sink as it is told, then the last line. From
-// the opening on these are all that the space and the rule allow.
+/// Runs a search to its end: every find is handed to the sink as it is told, then the last line. From
+/// the opening on these are all that the space and the rule allow. Where the sink fails, what it was
+/// handed is a first part of that. A blank search is refused with 12. Where the page has no room for a
+/// text, that is refused with 15; one of `PAGE_SIZE` bytes has room for each.
 pub fn list_page<S: Sink>(
     search: &mut Search,
     page: &mut [u8],
     sink: &mut S,
 ) -> Result<(), ListFault>
-    ensures { (s : Surface) (rule : Rule) (cell : ℕ → ℕ) → Keeps s rule cell new_book search.old →
-        OnOk result (PageHanded S.Sink.takes S.Sink.rests s rule cell sink.old sink.new) }
+    ensures ran { (l : Ledger) → Stands l search.old →
+        RanBy S.Sink.takes S.Sink.rests S.Sink.fails l page.old sink.old result search.new page.new sink.new }
+    ensures room { (s : Surface) (rule : Rule) (cell : ℕ → ℕ) (b : Book) → Keeps s rule cell b search.old → text_room ≤ length page.old →
+        IfErr result (λ fault. fault ≡ listing.Closed) }
 {
     let mut left = STRIDE;
     // it ends, since each go that is not the last leaves fewer

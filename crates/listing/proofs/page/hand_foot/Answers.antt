@@ -1,12 +1,42 @@
-use Rattle.std.proofs.Common.{ℕ, List, ap, ◌∙◌, subst}
+use Rattle.std.proofs.Common.{rules, ◌≡◌, ℕ, List, Err, Result, refl, sym, subst}
+use Rattle.pages.specs.declared.fault.PageFault.TheVariants.{Short}
 use Rattle.printing.specs.Printed.{found_line}
-use Rattle.listing.specs.Handing.{nothing, rested, took}
-use Rattle.listing.proofs.Pages.{finds_counted, text_taken}
+use Rattle.calls.specs.Ledgers.{tally_of}
+use Rattle.listing.specs.declared.fault.ListFault.{ListFault}
+use Rattle.listing.specs.declared.fault.ListFault.TheVariants as listing
+use Rattle.listing.specs.Handing.{TextHanded, at_rest, at_text, nothing, rested, took}
+use Rattle.listing.proofs.Pages.{finds_counted, finds_not_counted, line_not_put, line_put}
 use Rattle.listing.proofs.page.hand_foot.Goals as goal
 
-pub returns : goal.returns
-returns g c s rule cell b keeps =
-    let counted = finds_counted c.args.search.now c.perform.new.search c.args.page.now c.perform.new.page c.in_ok-finds.field-0 c.in_ok-finds.ensures.performed c.in-Counted.finds c.in-Counted.is b keeps in
-    let printed = c.in_ok-after.ensures in
-    let text = text_taken c.perform.new.page (found_line c.in-Counted.finds) c.write_found.new.page c.in_ok-after.after printed.0 printed.2 ∙ ap found_line counted in
-    rested (took _ nothing (subst (λ (text : List ℕ). g.S.Sink.takes c.args.sink.now text c.take.new.self) text c.in_ok-take.ensures)) c.in_ok-rest.ensures
+pub returns-in_err-finds-clause-handed : goal.returns-in_err-finds-clause-handed
+returns-in_err-finds-clause-handed g c s rule cell b keeps = elim (finds_not_counted keeps c.in_err-finds.ensures.performed) [ ]
+
+pub returns-in_err-after-clause-handed : goal.returns-in_err-after-clause-handed
+returns-in_err-after-clause-handed g c s rule cell b keeps =
+    let answer : c.from_residual-in_err-after.result ≡ Err (listing.Foot c.in_err-after.field-0.0) = search rules in
+    let counted = finds_counted keeps c.in_ok-finds.ensures.performed c.in-Counted.finds c.in-Counted.is in
+    let off = line_not_put c.args.search.now c.perform.new.search c.args.page.now c.perform.new.page c.write_found.new.page c.in_ok-finds.field-0 c.in-Counted.finds c.in_ok-finds.ensures.kind c.in-Counted.is b counted c.in_err-after.field-0.0 c.in_err-after.ensures in
+    subst (λ (r : Result (Unit {0}) ListFault). TextHanded g.S.Sink.takes g.S.Sink.rests g.S.Sink.fails (listing.Foot Short) (found_line (tally_of b.told)) c.args.page.now c.args.sink.now r c.write_found.new.page c.args.sink.now) (sym answer)
+    (off.0, off.1, off.2, refl)
+
+pub returns-in_err-take-clause-handed : goal.returns-in_err-take-clause-handed
+returns-in_err-take-clause-handed g c s rule cell b keeps =
+    let answer : c.from_residual-in_err-take.result ≡ Err listing.Closed = search rules in
+    let counted = finds_counted keeps c.in_ok-finds.ensures.performed c.in-Counted.finds c.in-Counted.is in
+    let put = line_put c.args.search.now c.perform.new.search c.args.page.now c.perform.new.page c.write_found.new.page c.in_ok-finds.field-0 c.in-Counted.finds c.in_ok-finds.ensures.kind c.in-Counted.is b counted c.in_ok-after.after c.in_ok-after.ensures in
+    subst (λ (r : Result (Unit {0}) ListFault). TextHanded g.S.Sink.takes g.S.Sink.rests g.S.Sink.fails (listing.Foot Short) (found_line (tally_of b.told)) c.args.page.now c.args.sink.now r c.write_found.new.page c.take.new.self) (sym answer)
+    (put.1, at_text (found_line (tally_of b.told)) nothing (subst (λ (text : List ℕ). g.S.Sink.fails c.args.sink.now text c.take.new.self) put.0 c.in_err-take.ensures.failed))
+
+pub returns-in_err-rest-clause-handed : goal.returns-in_err-rest-clause-handed
+returns-in_err-rest-clause-handed g c s rule cell b keeps =
+    let answer : c.from_residual-in_err-rest.result ≡ Err listing.Closed = search rules in
+    let counted = finds_counted keeps c.in_ok-finds.ensures.performed c.in-Counted.finds c.in-Counted.is in
+    let put = line_put c.args.search.now c.perform.new.search c.args.page.now c.perform.new.page c.write_found.new.page c.in_ok-finds.field-0 c.in-Counted.finds c.in_ok-finds.ensures.kind c.in-Counted.is b counted c.in_ok-after.after c.in_ok-after.ensures in
+    subst (λ (r : Result (Unit {0}) ListFault). TextHanded g.S.Sink.takes g.S.Sink.rests g.S.Sink.fails (listing.Foot Short) (found_line (tally_of b.told)) c.args.page.now c.args.sink.now r c.write_found.new.page c.rest.new.self) (sym answer)
+    (put.1, at_rest (took (found_line (tally_of b.told)) nothing (subst (λ (text : List ℕ). g.S.Sink.takes c.args.sink.now text c.take.new.self) put.0 c.in_ok-take.ensures.taken)) c.in_err-rest.ensures.failed)
+
+pub returns-clause-handed : goal.returns-clause-handed
+returns-clause-handed g c s rule cell b keeps =
+    let counted = finds_counted keeps c.in_ok-finds.ensures.performed c.in-Counted.finds c.in-Counted.is in
+    let put = line_put c.args.search.now c.perform.new.search c.args.page.now c.perform.new.page c.write_found.new.page c.in_ok-finds.field-0 c.in-Counted.finds c.in_ok-finds.ensures.kind c.in-Counted.is b counted c.in_ok-after.after c.in_ok-after.ensures in
+    (put.1, rested (took (found_line (tally_of b.told)) nothing (subst (λ (text : List ℕ). g.S.Sink.takes c.args.sink.now text c.take.new.self) put.0 c.in_ok-take.ensures.taken)) c.in_ok-rest.ensures.rested)

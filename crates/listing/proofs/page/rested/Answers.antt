@@ -1,8 +1,8 @@
 use Rattle.listing.specs.Handing.{nothing, rested}
 use Rattle.listing.proofs.page.rested.Goals as goal
 
-pub returns-in_ok-rest-in-0 : goal.returns-in_ok-rest-in-0
-returns-in_ok-rest-in-0 g c = rested nothing c.in_ok-rest-in-0.ensures
+pub returns-in_ok-rest-in-0-clause-rested : goal.returns-in_ok-rest-in-0-clause-rested
+returns-in_ok-rest-in-0-clause-rested g c = rested nothing c.in_ok-rest-in-0.ensures.rested
 
-pub returns-in_default : goal.returns-in_default
-returns-in_default g c = nothing
+pub returns-in_default-clause-rested : goal.returns-in_default-clause-rested
+returns-in_default-clause-rested g c = nothing
