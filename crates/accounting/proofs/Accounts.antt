@@ -1,5 +1,7 @@
 -- The account of a list of calls and a list of texts.
-use Rattle.std.proofs.Common.{◌≡◌, ℕ, suc, ◌+◌, ◌*◌, ◌<◌, ◌≤◌, Bool, cond, List, [], ◌∷◌, ◌++◌, map, length, take, get_or, None, Ok, Err, refl, sym, ap, ◌∙◌, subst, arith}
+use Rattle.std.proofs.Common.{◌≡◌, ℕ, suc, ◌+◌, ◌*◌, ◌<◌, ◌≤◌, Bool, Bor, cond, List, [], ◌∷◌, ◌++◌, ◌⊎◌, inl, inr, map, length, take, get_or, None, Ok, Err, Result, refl, sym, ap, ◌∙◌, subst, arith}
+use Rattle.std.specs.Global.{Vec}
+use Rattle.std.specs.Prelude.{MatchResult}
 use Rattle.std.proofs.Math.Seq.{take-suc}
 use Rattle.std.proofs.lemmas.Bool.{lt-ltb}
 use Rattle.std.proofs.lemmas.List.{map-append, take_all}
@@ -8,72 +10,122 @@ use Rattle.rolls.specs.Rolls.{Surface, Lawful, Roll}
 use Rattle.systems.specs.Systems.{In, here, there}
 use Rattle.systems.proofs.Base.{never}
 use Rattle.histories.specs.Listed.{Listed}
-use Rattle.checking.specs.Checked.{checked, judged}
+use Rattle.checking.specs.Checked.{Refuses, checked, judged}
 use Rattle.patterns.specs.Told.{told}
+use Rattle.checking.specs.declared.fault.CheckFault.{CheckFault}
 use Rattle.checking.specs.declared.fault.CheckFault.TheVariants.{Rows}
 use Rattle.checking.proofs.Accepting.{roll_right}
-use Rattle.search.specs.declared.fault.OpenFault.TheVariants.{Memory, TieRows}
 use Rattle.search.specs.declared.search.Search.{Search}
 use Rattle.calls.specs.Asked.{Asked, to_open}
 use Rattle.calls.specs.Histories.{Keeps, Performed, Stands}
-use Rattle.calls.specs.Ledgers.{Answered, Book, Called, Ledger, Run, blank, calls_on, many_rows, new_book, no_calls, no_memory, opened, opens, tally_of}
+use Rattle.calls.specs.Ledgers.{Answered, Book, Called, Ledger, Made, Run, blank, calls_on, many_rows, new_book, no_calls, no_memory, opened, opens, tally_of}
 use Rattle.calls.specs.declared.call.Reply.TheVariants.{Opened}
-use Rattle.calls.specs.declared.fault.CallFault.TheVariants.{Open}
-use Rattle.accounting.specs.Accounts.{Accounted, AcceptsNone, Agreed, Both, Ended, shown}
+use Rattle.accounting.specs.Accounts.{Accounted, AcceptsNone, Agreed, Both, EachJudged, Ended, Neither, OnePage, Unopened, VerdictOn, shown}
 use Rattle.accounting.specs.declared.report.Report.{Report}
-use Rattle.accounting.proofs.Told.{AllTold, all_told, still_opened}
+use Rattle.accounting.proofs.Told.{AllTold, all_told, none_ended, opened_on}
 
--- ---- the calls, from the opening on
--- what stands between two calls: an opening was asked, and the calls behind it
+-- ---- texts, one after another
+pub judged_then : (s : Surface) (rule : Rule) (texts : List (List ℕ)) (verdicts : List (Result (Vec Bool) CheckFault)) (text : List ℕ) (verdict : Result (Vec Bool) CheckFault) → EachJudged s rule texts verdicts → VerdictOn s rule text (shown verdict) →
+    EachJudged s rule (texts ++ text ∷ []) (verdicts ++ verdict ∷ [])
+judged_then s rule [] [] text verdict h v = (v, tt)
+judged_then s rule [] (w ∷ verdicts) text verdict h v = absurd h
+judged_then s rule (t ∷ texts) [] text verdict h v = absurd h
+judged_then s rule (t ∷ texts) (w ∷ verdicts) text verdict h v = (h.0, judged_then s rule texts verdicts text verdict h.1 v)
+
+pub none_judged : (s : Surface) (rule : Rule) (verdicts : List (Result (Vec Bool) CheckFault)) → length verdicts ≡ 0 → EachJudged s rule [] verdicts
+none_judged s rule [] e = tt
+none_judged s rule (v ∷ verdicts) e = never (omega (arith, e))
+
+-- what is promised of a verdict
+pub verdict_on : (s : Surface) (rule : Rule) (text : List ℕ) (r : Result (Vec Bool) CheckFault) → MatchResult r (λ v. checked s rule text ≡ Ok v.items) (Refuses (checked s rule text)) → VerdictOn s rule text (shown r)
+verdict_on s rule text (Ok v) h = h
+verdict_on s rule text (Err fault) h = h
+
+-- ---- calls, one after another
+-- on the page as it was left
+page_on : (from p p' : List ℕ) (made : List Made) (c : Asked) (a : Answered) → OnePage from made p → OnePage from (made ++ record { before = p; call = c; answer = a; after = p' } ∷ []) p'
+page_on from p p' [] c a h = (h, refl)
+page_on from p p' (m ∷ made) c a h = (h.0, page_on m.after p p' made c a h.1)
+
+-- a run behind a call
+behind : {l l' k : Ledger} {p p' : List ℕ} {c : Asked} {a : Answered} {made : List Made} → Called l p c a l' p' → Run l' made k → Run l (record { before = p; call = c; answer = a; after = p' } ∷ made) k
+behind called no_calls = calls_on no_calls called
+behind called (calls_on run next) = calls_on (behind called run) next
+
+-- what stands between two calls: an opening was asked, which left the page as it was, and the calls behind it were made on that page
 pub record Ongoing (s : Surface) (rule : Rule) (at : ℕ → ℕ) (from : List ℕ) (calls : List Asked) (opening : Answered) (answers : List Answered) (q : Search) (page : List ℕ) : Type 0 where
+  pub begun : Ledger
+  pub opens : Called blank from (to_open s rule at) opening begun from
+  pub made : List Made
+  pub asked : map (λ (m : Made). m.call) made ≡ calls
+  pub answered : map (λ (m : Made). m.answer) made ≡ answers
+  pub on_page : OnePage from made page
   pub ledger : Ledger
-  pub run : Run from (to_open s rule at ∷ calls) (opening ∷ answers) ledger page
+  pub run : Run begun made ledger
   pub stands : Stands ledger q
-  pub few : s.rows ≤ 8 → (opening ≡ Ok Opened) × ((b : Book) × (ledger ≡ opened s rule at b))
-  pub many : 8 < s.rows → opening ≡ Err (Open TieRows)
 
 module _ (s : Surface) (rule : Rule) (at : ℕ → ℕ) where
   -- the opening leaves the page as it is
   page_kept : {a : Answered} {l : Ledger} {p p' : List ℕ} → Called blank p (to_open s rule at) a l p' → p' ≡ p
-  page_kept (opens rank o few) = refl
+  page_kept (opens rank i o few) = refl
   page_kept (many_rows m) = refl
   page_kept (no_memory f) = refl
 
-  pub unopened : (q q' : Search) (p p' : List ℕ) (a : Answered) → q.record ≡ None → Performed blank q p (to_open s rule at) a q' p' → p' ≡ p
-  unopened q q' p p' a h performed = page_kept (performed h).1
-
-  opened_by : {a : Answered} {l : Ledger} {p p' : List ℕ} {q : Search} → Called blank p (to_open s rule at) a l p' → (a ≡ Err (Open Memory) → ⊥) → Stands l q → Ongoing s rule at p [] a [] q p'
-  opened_by (opens rank o few) other stands = record { ledger = opened s rule at new_book; run = calls_on no_calls (opens rank o few); stands = stands; few = λ f. (refl, (new_book, refl)); many = λ m. never (omega (arith, m, few)) }
-  opened_by (many_rows m) other stands = record { ledger = blank; run = calls_on no_calls (many_rows m); stands = stands; few = λ f. never (omega (arith, m, f)); many = λ m. refl }
-  opened_by (no_memory f) other stands = absurd (other refl)
-
-  pub begun : (q q' : Search) (p p' : List ℕ) (a : Answered) → q.record ≡ None → Performed blank q p (to_open s rule at) a q' p' → (a ≡ Err (Open Memory) → ⊥) → (answers : List Answered) → answers ≡ [] → Ongoing s rule at p [] a answers q' p'
-  begun q q' p p' a h performed other answers none = let now = performed h in subst (λ (answers : List Answered). Ongoing s rule at p [] a answers q' p') (sym none) (opened_by now.1 other now.2)
+  -- the opening is made
+  pub begun : (q q' : Search) (p p' : List ℕ) (a : Answered) → q.record ≡ None → Performed blank q p (to_open s rule at) a q' p' → (answers : List Answered) → answers ≡ [] → Ongoing s rule at p [] a answers q' p'
+  begun q q' p p' a h performed answers none =
+      let now = performed h in
+      let same : p' ≡ p = page_kept now.1 in
+      record {
+        begun = now.0;
+        opens = subst (λ (page : List ℕ). Called blank p (to_open s rule at) a now.0 page) same now.1;
+        made = [];
+        asked = refl;
+        answered = sym none;
+        on_page = same;
+        ledger = now.0;
+        run = no_calls;
+        stands = now.2;
+      }
 
   -- one call more
   pub onward : (from p p' : List ℕ) (calls calls' : List Asked) (opening a : Answered) (answers answers' : List Answered) (q q' : Search) (c : Asked) → Ongoing s rule at from calls opening answers q p → ((l : Ledger) → Performed l q p c a q' p') →
       calls' ≡ calls ++ c ∷ [] → answers' ≡ answers ++ a ∷ [] → Ongoing s rule at from calls' opening answers' q' p'
   onward from p p' calls calls' opening a answers answers' q q' c h performed more longer =
-      subst (λ (calls : List Asked). Ongoing s rule at from calls opening answers' q' p') (sym more)
-      (subst (λ (answers : List Answered). Ongoing s rule at from (calls ++ c ∷ []) opening answers q' p') (sym longer)
-      (let now = performed h.ledger h.stands in
+      let now = performed h.ledger h.stands in
       record {
+        begun = h.begun;
+        opens = h.opens;
+        made = h.made ++ record { before = p; call = c; answer = a; after = p' } ∷ [];
+        asked = map-append (λ (m : Made). m.call) h.made _ ∙ ap (λ (calls : List Asked). calls ++ c ∷ []) h.asked ∙ sym more;
+        answered = map-append (λ (m : Made). m.answer) h.made _ ∙ ap (λ (answers : List Answered). answers ++ a ∷ []) h.answered ∙ sym longer;
+        on_page = page_on from p p' h.made c a h.on_page;
         ledger = now.0;
         run = calls_on h.run now.1;
         stands = now.2;
-        few = λ f. let was = h.few f in (was.0, still_opened (subst (λ (l : Ledger). Called l p c a now.0 p') was.1.1 now.1));
-        many = h.many;
-      }))
+      }
+
+-- a list with nothing in it
+pub emptied : {A : Type 0} (xs : List A) → length xs ≡ 0 → xs ≡ []
+emptied [] e = refl
+emptied (x ∷ xs) e = never (omega (arith, e))
 
 one_more : (i : ℕ) → i + 1 ≡ suc i
 one_more i = omega arith
 
--- what is asked by one call more
-pub asked_more : {A : Type 0} (ask : A → Asked) (calls : List A) (i : ℕ) (call d : A) → i < length calls → call ≡ get_or calls i d → map ask (take (i + 1) calls) ≡ map ask (take i calls) ++ ask call ∷ []
+-- what is asked by one more
+pub asked_more : {A B : Type 0} (ask : A → B) (calls : List A) (i : ℕ) (call d : A) → i < length calls → call ≡ get_or calls i d → map ask (take (i + 1) calls) ≡ map ask (take i calls) ++ ask call ∷ []
 asked_more ask calls i call d less e = ap (λ (n : ℕ). map ask (take n calls)) (one_more i) ∙ ap (map ask) (take-suc calls i d less) ∙ map-append ask (take i calls) _ ∙ ap (λ c. map ask (take i calls) ++ ask c ∷ []) (sym e)
 
-pub asked_all : {A : Type 0} (ask : A → Asked) (calls : List A) (i : ℕ) → length calls ≤ i → map ask (take i calls) ≡ map ask calls
+pub asked_all : {A B : Type 0} (ask : A → B) (calls : List A) (i : ℕ) → length calls ≤ i → map ask (take i calls) ≡ map ask calls
 asked_all ask calls i all = ap (map ask) (take_all i calls all)
+
+-- the verdict on one text more
+pub judged_more : (s : Surface) (rule : Rule) (texts : List (Bor (List ℕ))) (i : ℕ) (d : Bor (List ℕ)) (verdicts verdicts' : List (Result (Vec Bool) CheckFault)) (verdict : Result (Vec Bool) CheckFault) → i < length texts →
+    EachJudged s rule (map (λ text. text.now) (take i texts)) verdicts → VerdictOn s rule (get_or texts i d).now (shown verdict) → verdicts' ≡ verdicts ++ verdict ∷ [] → EachJudged s rule (map (λ text. text.now) (take (i + 1) texts)) verdicts'
+judged_more s rule texts i d verdicts verdicts' verdict less was v longer =
+    subst (λ (verdicts : List (Result (Vec Bool) CheckFault)). EachJudged s rule (map (λ text. text.now) (take (i + 1) texts)) verdicts) (sym longer)
+    (subst (λ (texts : List (List ℕ)). EachJudged s rule texts (verdicts ++ verdict ∷ [])) (sym (asked_more (λ text. text.now) texts i (get_or texts i d) d less refl)) (judged_then s rule (map (λ text. text.now) (take i texts)) verdicts (get_or texts i d).now verdict was v))
 
 -- ---- the roll and the checker
 none_told : (fs : List (List Bool)) → tally_of fs ≡ 0 → fs ≡ []
@@ -100,31 +152,50 @@ module _ (s : Surface) (rule : Rule) (at : ℕ → ℕ) (law : Lawful s) where
         record {
           listed = listed;
           whole = whole;
-          exactly = λ first. roll_right.exactly s rule first law few;
           none = λ ended. (accepts_none b.told (whole ended), tells_none b.told listed.members);
         }
 
-  pub accounted : (from to : List ℕ) (calls asked : List Asked) (texts : List (List ℕ)) (a : Report) (q : Search) → map shown a.verdicts.items ≡ map (checked s rule) texts → asked ≡ calls → Ongoing s rule at from asked a.opened a.answers.items q to →
-      Accounted s rule at calls texts a from to
-  accounted from to calls asked texts a q verdicts whole going = by (subst (λ (asked : List Asked). Ongoing s rule at from asked a.opened a.answers.items q to) whole going)
-    where
-      both : (h : Ongoing s rule at from calls a.opened a.answers.items q to) → s.rows ≤ 8 → Both s rule at a h.ledger
-      both h few =
-          let on = h.few few in
-          let keeps : Keeps s rule at on.1.0 q = subst (λ (l : Ledger). Stands l q) on.1.1 h.stands in
-          let whole : AllTold (a.opened ∷ a.answers.items) (opened s rule at on.1.0) = subst (AllTold (a.opened ∷ a.answers.items)) on.1.1 (all_told h.run) in
-          record {
-            granted = on.0;
-            book = on.1.0;
-            ledger = on.1.1;
-            agreed = agreed few a.answers.items on.1.0 keeps.listed (λ ended. whole (ended.0, there ended.1));
-          }
+  -- ---- both of them
+  module _ (a : Report) (q : Search) where
+    -- a search that was opened
+    both : s.rows ≤ 8 → (made : List Made) (ledger : Ledger) → a.opened ≡ Ok Opened → map (λ (m : Made). m.answer) made ≡ a.answers.items → Run (opened s rule at new_book) made ledger → Stands ledger q → Both s rule at a ledger
+    both few made ledger granted answered run stands =
+        let on = opened_on run in
+        let told : AllTold (map (λ (m : Made). m.answer) made) ledger = all_told (λ e. absurd (none_ended e)) run in
+        let whole : AllTold a.answers.items (opened s rule at on.0) = subst (λ (l : Ledger). AllTold a.answers.items l) on.1 (subst (λ (answers : List Answered). AllTold answers ledger) answered told) in
+        let keeps : Keeps s rule at on.0 q = subst (λ (l : Ledger). Stands l q) on.1 stands in
+        record {
+          granted = granted;
+          book = on.0;
+          ledger = on.1;
+          agreed = agreed few a.answers.items on.0 keeps.listed whole;
+        }
 
-      by : Ongoing s rule at from calls a.opened a.answers.items q to → Accounted s rule at calls texts a from to
-      by h = record {
+    -- by what the opening came to
+    less_rows : (p p' : List ℕ) (made : List Made) (opening : Answered) (first ledger : Ledger) → Called blank p (to_open s rule at) opening first p' → a.opened ≡ opening → map (λ (m : Made). m.answer) made ≡ a.answers.items → Run first made ledger → Stands ledger q → s.rows ≤ 8 → Both s rule at a ledger ⊎ Unopened a made ledger
+    less_rows p p' made opening first ledger (opens rank i o few) granted answered run stands less = inl (both few made ledger granted answered run stands)
+    less_rows p p' made opening first ledger (many_rows m) granted answered run stands less = never (omega (arith, m, less))
+    less_rows p p' made opening first ledger (no_memory f) wanting answered run stands less = inr (record { wanting = wanting; blank_on = run })
+
+    more_rows : (p p' : List ℕ) (made : List Made) (opening : Answered) (first ledger : Ledger) → Called blank p (to_open s rule at) opening first p' → a.opened ≡ opening → Run first made ledger → 8 < s.rows → Neither s rule a made ledger
+    more_rows p p' made opening first ledger (opens rank i o few) granted run more = never (omega (arith, few, more))
+    more_rows p p' made opening first ledger (many_rows m) refused run more =
+        record { opening = refused; blank_on = run; checks = λ text. ap (λ (many : Bool). cond many (Err Rows) (judged s rule (told text))) (lt-ltb 8 s.rows m) }
+    more_rows p p' made opening first ledger (no_memory f) wanting run more = never (omega (arith, f, more))
+
+  pub accounted : (from to : List ℕ) (calls asked : List Asked) (texts : List (List ℕ)) (a : Report) (q : Search) → EachJudged s rule texts a.verdicts.items → asked ≡ calls → Ongoing s rule at from asked a.opened a.answers.items q to →
+      Accounted s rule at calls texts a from to
+  accounted from to calls asked texts a q verdicts whole h =
+      record {
         verdicts = verdicts;
+        opening = record { before = from; call = to_open s rule at; answer = a.opened; after = from };
+        made = h.made;
+        asked = ap (λ (calls : List Asked). to_open s rule at ∷ calls) (h.asked ∙ whole);
+        answered = ap (λ (answers : List Answered). a.opened ∷ answers) h.answered;
+        on_page = (refl, h.on_page);
         ledger = h.ledger;
-        run = h.run;
-        few = both h;
-        many = λ m. record { opening = h.many m; checks = λ text. ap (λ (many : Bool). cond many (Err Rows) (judged s rule (told text))) (lt-ltb 8 s.rows m) };
+        run = behind h.opens h.run;
+        few = λ less. less_rows a q from from h.made a.opened h.begun h.ledger h.opens refl h.answered h.run h.stands less;
+        many = λ more. more_rows a q from from h.made a.opened h.begun h.ledger h.opens refl h.run more;
+        exactly = λ less first. roll_right.exactly s rule first law less;
       }

@@ -1,1 +1,2 @@
 pub mod Accounts
+pub mod Rooms

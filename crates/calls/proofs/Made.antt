@@ -27,7 +27,7 @@ use Rattle.search.specs.declared.record.Record.{Record}
 use Rattle.search.specs.declared.search.Search.{Search}
 use Rattle.calls.specs.Asked.{Asked, to_open, to_go, to_read, to_write, to_count}
 use Rattle.calls.specs.Histories.{History, Performed, Stands}
-use Rattle.calls.specs.Ledgers.{Answered, Called, Granted, Ledger, blank, opened, blank_count, blank_go, blank_read, blank_write, calls_on, counts, many_rows, new_book, no_cell, no_memory, no_room, no_steps, none_to_read, none_to_write, not_blank, opens, reads, text_in, writes}
+use Rattle.calls.specs.Ledgers.{Answered, Called, Granted, Ledger, Made, blank, opened, blank_count, blank_go, blank_read, blank_write, calls_on, counts, many_rows, new_book, no_cell, no_memory, no_room, no_steps, none_to_read, none_to_write, not_blank, opens, reads, text_in, writes}
 use Rattle.calls.specs.declared.call.Reply.TheVariants.{Opened, Went, Read, Wrote, Counted}
 use Rattle.calls.specs.declared.fault.CallFault.TheVariants as calling
 use Rattle.calls.proofs.Going.{begun, went}
@@ -41,7 +41,7 @@ answers : (l l' : Ledger) (q' : Search) (p p' : List ℕ) (c : Asked) (a a' : An
 answers l l' q' p p' c a a' alike called stands = (l', subst (λ (a : Answered). Called l p c a l' p') (sym alike) called, stands)
 
 -- a history goes on by a call
-pub goes_on : {from p p' : List ℕ} {calls : List Asked} {answered : List Answered} {q q' : Search} {c : Asked} {a : Answered} → ((l : Ledger) → Performed l q p c a q' p') → History from calls answered q p → History from (calls ++ c ∷ []) (answered ++ a ∷ []) q' p'
+pub goes_on : {made : List Made} {q q' : Search} {p p' : List ℕ} {c : Asked} {a : Answered} → ((l : Ledger) → Performed l q p c a q' p') → History made q → History (made ++ record { before = p; call = c; answer = a; after = p' } ∷ []) q'
 goes_on performed h = let now = performed h.ledger h.stands in record { ledger = now.0; run = calls_on h.run now.1; stands = now.2 }
 
 -- ---- opening
@@ -51,7 +51,7 @@ module _ (q q' : Search) (p : List ℕ) (s : Surface) (rule : Rule) (at : ℕ �
     where
       few : (many : Bool) → nat_lt 8 s.rows ≡ many → cond many (Some opening.TieRows) None ≡ None → (l : Ledger) × Called blank p (to_open s rule at) (Ok Opened) l p × Stands l q'
       few true e none = never (cc)
-      few false e none = (opened s rule at new_book, opens rank orders (ltb-false 8 s.rows e), begun s rule at q' is_open state untold rank orders)
+      few false e none = (opened s rule at new_book, opens rank is_open.2.inside orders (ltb-false 8 s.rows e), begun s rule at q' is_open state untold rank orders)
   opened_now rank granted is_open state untold orders (opened t r by b) h = let again = subst (λ (o : Option Record). open_refusal o s.rows ≡ None) h.is_open.1 granted in never (cc)
 
   pub not_opened : (fault : OpenFault) → OpenRefused (open_refusal q.record s.rows) fault → q' ≡ q → (l : Ledger) → Performed l q p (to_open s rule at) (Err (calling.Open fault)) q' p

@@ -10,7 +10,7 @@ use Rattle.histories.specs.Searches.{Calls, fresh}
 use Rattle.search.specs.Calls.{IsOpen, find_of, found_by, state_in, told_by}
 use Rattle.search.specs.declared.search.Search.{Search}
 use Rattle.calls.specs.Asked.{Asked}
-use Rattle.calls.specs.Ledgers.{Answered, Book, Called, Ledger, Run, blank, new_book, opened, tally_of}
+use Rattle.calls.specs.Ledgers.{Answered, Book, Called, Ledger, Made, Run, blank, new_book, opened, tally_of}
 
 -- an opened search and what has come of it
 pub record Keeps (s : Surface) (rule : Rule) (cell : ℕ → ℕ) (b : Book) (q : Search) : Type 0 where
@@ -35,10 +35,10 @@ Stands (opened s rule cell b) q = Keeps s rule cell b q
 abbrev pub Performed : Ledger → Search → List ℕ → Asked → Answered → Search → List ℕ → Type 0
 Performed l old from call answer new to = Stands l old → (l' : Ledger) × Called l from call answer l' to × Stands l' new
 
--- the calls by which a search, blank at first, came to stand as it stands, with the page as it was at first and as it is
-pub record History (from : List ℕ) (calls : List Asked) (answers : List Answered) (q : Search) (page : List ℕ) : Type 0 where
+-- the calls by which a search, blank at first, came to stand as it stands, each with the pages before and after it
+pub record History (made : List Made) (q : Search) : Type 0 where
   pub ledger : Ledger
-  pub run : Run from calls answers ledger page
+  pub run : Run blank made ledger
   pub stands : Stands ledger q
 
 -- what a granted `Search::open` promises of a search, by a cell order, is what a search keeps of which nothing is told

@@ -9,6 +9,7 @@ use Rattle.rolls.specs.Rolls.{Surface, Roll}
 use Rattle.pages.specs.Pages.{Written}
 use Rattle.pages.specs.declared.fault.PageFault.TheVariants.{Short}
 use Rattle.rle.specs.Texts.{pattern_text}
+use Rattle.classes.specs.Joins.{TiesInside}
 use Rattle.systems.specs.Spaces.{spread, system_of}
 use Rattle.systems.specs.Systems.{In}
 use Rattle.histories.specs.Searches.{State, fresh, tells_find, done, paused, Go}
@@ -67,8 +68,8 @@ Granted n = (1 ≤ n) × (n ≤ 1000000)
 -- what a call answers, what the search has come to then, and the page then
 pub data Called : Ledger → List ℕ → Asked → Answered → Ledger → List ℕ → Type 0 where
   -- ---- a blank search
-  -- an opening, by any cell order, over at most 8 rows of ties
-  opens : {s : Surface} {r : Rule} {at : ℕ → ℕ} {p : List ℕ} (rank : ℕ → ℕ) → Orders (cells s.frame) at rank → s.rows ≤ 8 →
+  -- an opening, over at most 8 rows of ties, which name cells of the box, and by any cell order
+  opens : {s : Surface} {r : Rule} {at : ℕ → ℕ} {p : List ℕ} (rank : ℕ → ℕ) → TiesInside s → Orders (cells s.frame) at rank → s.rows ≤ 8 →
       Called blank p (to_open s r at) (Ok Opened) (opened s r at new_book) p
   many_rows : {s : Surface} {r : Rule} {at : ℕ → ℕ} {p : List ℕ} → 8 < s.rows →
       Called blank p (to_open s r at) (Err (Open opening.TieRows)) blank p
@@ -115,8 +116,16 @@ pub data Called : Ledger → List ℕ → Asked → Answered → Ledger → List
   counts : {s : Surface} {r : Rule} {at : ℕ → ℕ} {b : Book} {p : List ℕ} →
       Called (opened s r at b) p to_count (Ok (Counted (tally_of b.told))) (opened s r at b) p
 
--- calls of a search that was blank, one after another, each with its answer: what it has come to, and the page
-pub data Run (from : List ℕ) : List Asked → List Answered → Ledger → List ℕ → Type 0 where
-  no_calls : Run from [] [] blank from
-  calls_on : {calls : List Asked} {answers : List Answered} {l l' : Ledger} {p p' : List ℕ} {c : Asked} {a : Answered} →
-      Run from calls answers l p → Called l p c a l' p' → Run from (calls ++ c ∷ []) (answers ++ a ∷ []) l' p'
+-- a call as it was made: the page before it, what was asked and answered, and the page after it
+pub record Made : Type 0 where
+  pub before : List ℕ
+  pub call : Asked
+  pub answer : Answered
+  pub after : List ℕ
+
+-- calls of a search one after another, from what it has come to on. Between two of them its caller may do anything with the page, and use another:
+-- the page after a call and the page before the next have nothing to do with each other
+pub data Run (from : Ledger) : List Made → Ledger → Type 0 where
+  no_calls : Run from [] from
+  calls_on : {made : List Made} {l l' : Ledger} {p p' : List ℕ} {c : Asked} {a : Answered} →
+      Run from made l → Called l p c a l' p' → Run from (made ++ record { before = p; call = c; answer = a; after = p' } ∷ []) l'

@@ -1,8 +1,8 @@
-ghost use Rattle.std.specs.Prelude.{ℕ, List, [], ◌∷◌, ◌++◌};
-ghost use Rattle.calls.specs.Asked.{Asked, asked};
+ghost use Rattle.std.specs.Prelude.{List, [], ◌∷◌, ◌++◌};
+ghost use Rattle.calls.specs.Asked.{asked};
 ghost use Rattle.calls.specs.Histories.{History, Performed};
 ghost use Rattle.calls.specs.Kinds.{Kind};
-ghost use Rattle.calls.specs.Ledgers.{Answered, Ledger};
+ghost use Rattle.calls.specs.Ledgers.{Ledger, Made};
 
 use crate::call::{Call, Reply};
 use crate::fault::CallFault;
@@ -19,8 +19,8 @@ pub fn perform<S: Space, O: Order>(
 ) -> Result<Reply, CallFault>
     ensures kind { Kind search.old page.old (asked S.Plane.means S.Space.count S.Space.tied O.Order.cell_of_rank call.now) result search.new page.new }
     ensures performed { (l : Ledger) → Performed l search.old page.old (asked S.Plane.means S.Space.count S.Space.tied O.Order.cell_of_rank call.now) result search.new page.new }
-    ensures history { (from : List ℕ) (calls : List Asked) (answers : List Answered) → History from calls answers search.old page.old →
-        History from (calls ++ asked S.Plane.means S.Space.count S.Space.tied O.Order.cell_of_rank call.now ∷ []) (answers ++ result ∷ []) search.new page.new }
+    ensures history { (made : List Made) → History made search.old →
+        History (made ++ record { before = page.old; call = asked S.Plane.means S.Space.count S.Space.tied O.Order.cell_of_rank call.now; answer = result; after = page.new } ∷ []) search.new }
 {
     Ok(match call {
         Call::Open(opening) => {

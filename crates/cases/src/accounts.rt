@@ -1,7 +1,7 @@
 use crate::answers::{Answered, answers_agree};
 use crate::opening::{ProblemCall, opening_of};
 use crate::script::{Called, Script};
-use accounting::{Verdict, account};
+use accounting::{Room, Verdict, account};
 use calls::{Call, Reply};
 use checking::CheckFault;
 use listing::PAGE_SIZE;
@@ -31,7 +31,8 @@ fn answers_at_once(
         }
     }
     let opening = opening_of(heap, &script.problem);
-    let report = account(opening, calls.as_slice(), page, &[])?;
+    let room = Room::new(heap, calls.len(), 0)?;
+    let report = account(room, opening, calls.as_slice(), page, &[])?;
     report.opened?;
     Ok(Some(report.answers))
 }
@@ -130,7 +131,9 @@ pub fn problem_accounted(
         .collect(heap)?;
     texts.push(other.as_bytes())?;
     let calls = calls_for(heap, texts.as_slice())?;
+    let room = Room::new(heap, calls.len(), texts.len())?;
     let report = account(
+        room,
         opening_of(heap, &problem),
         calls.as_slice(),
         &mut [],

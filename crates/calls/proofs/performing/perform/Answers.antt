@@ -13,7 +13,7 @@ returns-in_err-open-in-Open-clause-performed g c l =
     (not_opened c.args.search.now c.open.new.self c.args.page.now _ _ _ c.in_err-open-in-Open.field-0.0 told.0 told.1 l)
 
 pub returns-in_err-open-in-Open-clause-history : goal.returns-in_err-open-in-Open-clause-history
-returns-in_err-open-in-Open-clause-history g c from calls answers = goes_on (returns-in_err-open-in-Open-clause-performed g c)
+returns-in_err-open-in-Open-clause-history g c made = goes_on (returns-in_err-open-in-Open-clause-performed g c)
 
 pub returns-in_err-go-in-Go-clause-performed : goal.returns-in_err-go-in-Go-clause-performed
 returns-in_err-go-in-Go-clause-performed g c l =
@@ -23,7 +23,7 @@ returns-in_err-go-in-Go-clause-performed g c l =
     (not_gone c.args.search.now c.go.new.self c.args.page.now c.in-Go.steps c.in_err-go-in-Go.field-0.0 told.0 told.1 l)
 
 pub returns-in_err-go-in-Go-clause-history : goal.returns-in_err-go-in-Go-clause-history
-returns-in_err-go-in-Go-clause-history g c from calls answers = goes_on (returns-in_err-go-in-Go-clause-performed g c)
+returns-in_err-go-in-Go-clause-history g c made = goes_on (returns-in_err-go-in-Go-clause-performed g c)
 
 pub returns-in_err-cell-in-Cell-clause-performed : goal.returns-in_err-cell-in-Cell-clause-performed
 returns-in_err-cell-in-Cell-clause-performed g c l =
@@ -32,7 +32,7 @@ returns-in_err-cell-in-Cell-clause-performed g c l =
     (cell_read c.args.search.now c.args.page.now c.in-Cell.cell c.cell.result c.cell.ensures.cell c.cell.ensures.find l)
 
 pub returns-in_err-cell-in-Cell-clause-history : goal.returns-in_err-cell-in-Cell-clause-history
-returns-in_err-cell-in-Cell-clause-history g c from calls answers = goes_on (returns-in_err-cell-in-Cell-clause-performed g c)
+returns-in_err-cell-in-Cell-clause-history g c made = goes_on (returns-in_err-cell-in-Cell-clause-performed g c)
 
 pub returns-in_err-write-in-Write-clause-performed : goal.returns-in_err-write-in-Write-clause-performed
 returns-in_err-write-in-Write-clause-performed g c l =
@@ -41,7 +41,7 @@ returns-in_err-write-in-Write-clause-performed g c l =
     (find_written c.args.search.now c.args.page.now c.write.new.page c.in-Write.at c.write.result c.write.ensures.writes c.write.ensures.text l)
 
 pub returns-in_err-write-in-Write-clause-history : goal.returns-in_err-write-in-Write-clause-history
-returns-in_err-write-in-Write-clause-history g c from calls answers = goes_on (returns-in_err-write-in-Write-clause-performed g c)
+returns-in_err-write-in-Write-clause-history g c made = goes_on (returns-in_err-write-in-Write-clause-performed g c)
 
 pub returns-in_err-tally-in-Tally-clause-performed : goal.returns-in_err-tally-in-Tally-clause-performed
 returns-in_err-tally-in-Tally-clause-performed g c l =
@@ -50,7 +50,7 @@ returns-in_err-tally-in-Tally-clause-performed g c l =
     (finds_counted c.args.search.now c.args.page.now c.tally.result c.tally.ensures l)
 
 pub returns-in_err-tally-in-Tally-clause-history : goal.returns-in_err-tally-in-Tally-clause-history
-returns-in_err-tally-in-Tally-clause-history g c from calls answers = goes_on (returns-in_err-tally-in-Tally-clause-performed g c)
+returns-in_err-tally-in-Tally-clause-history g c made = goes_on (returns-in_err-tally-in-Tally-clause-performed g c)
 
 -- ---- granted
 pub returns-in_ok-open-in-Open-clause-performed : goal.returns-in_ok-open-in-Open-clause-performed
@@ -63,7 +63,7 @@ returns-in_ok-open-in-Open-clause-performed g c l =
     (record { within = g.met.O.Order.within order frame; ranked = g.met.O.Order.ranked order frame; back = g.met.O.Order.back order frame; forth = g.met.O.Order.forth order frame }) l)
 
 pub returns-in_ok-open-in-Open-clause-history : goal.returns-in_ok-open-in-Open-clause-history
-returns-in_ok-open-in-Open-clause-history g c from calls answers = goes_on (returns-in_ok-open-in-Open-clause-performed g c)
+returns-in_ok-open-in-Open-clause-history g c made = goes_on (returns-in_ok-open-in-Open-clause-performed g c)
 
 pub returns-in_ok-go-in-Go-clause-performed : goal.returns-in_ok-go-in-Go-clause-performed
 returns-in_ok-go-in-Go-clause-performed g c l =
@@ -72,7 +72,7 @@ returns-in_ok-go-in-Go-clause-performed g c l =
     (went_on c.args.search.now c.go.new.self c.args.page.now c.in-Go.steps c.in_ok-go-in-Go.field-0 told.refused told.open told.goes told.found told.tally l)
 
 pub returns-in_ok-go-in-Go-clause-history : goal.returns-in_ok-go-in-Go-clause-history
-returns-in_ok-go-in-Go-clause-history g c from calls answers = goes_on (returns-in_ok-go-in-Go-clause-performed g c)
+returns-in_ok-go-in-Go-clause-history g c made = goes_on (returns-in_ok-go-in-Go-clause-performed g c)
 
 pub returns-in_ok-cell-in-Cell-clause-performed : goal.returns-in_ok-cell-in-Cell-clause-performed
 returns-in_ok-cell-in-Cell-clause-performed g c l =
@@ -80,7 +80,7 @@ returns-in_ok-cell-in-Cell-clause-performed g c l =
     (cell_read c.args.search.now c.args.page.now c.in-Cell.cell c.cell.result c.cell.ensures.cell c.cell.ensures.find l)
 
 pub returns-in_ok-cell-in-Cell-clause-history : goal.returns-in_ok-cell-in-Cell-clause-history
-returns-in_ok-cell-in-Cell-clause-history g c from calls answers = goes_on (returns-in_ok-cell-in-Cell-clause-performed g c)
+returns-in_ok-cell-in-Cell-clause-history g c made = goes_on (returns-in_ok-cell-in-Cell-clause-performed g c)
 
 pub returns-in_ok-write-in-Write-clause-performed : goal.returns-in_ok-write-in-Write-clause-performed
 returns-in_ok-write-in-Write-clause-performed g c l =
@@ -88,7 +88,7 @@ returns-in_ok-write-in-Write-clause-performed g c l =
     (find_written c.args.search.now c.args.page.now c.write.new.page c.in-Write.at c.write.result c.write.ensures.writes c.write.ensures.text l)
 
 pub returns-in_ok-write-in-Write-clause-history : goal.returns-in_ok-write-in-Write-clause-history
-returns-in_ok-write-in-Write-clause-history g c from calls answers = goes_on (returns-in_ok-write-in-Write-clause-performed g c)
+returns-in_ok-write-in-Write-clause-history g c made = goes_on (returns-in_ok-write-in-Write-clause-performed g c)
 
 pub returns-in_ok-tally-in-Tally-clause-performed : goal.returns-in_ok-tally-in-Tally-clause-performed
 returns-in_ok-tally-in-Tally-clause-performed g c l =
@@ -96,4 +96,4 @@ returns-in_ok-tally-in-Tally-clause-performed g c l =
     (finds_counted c.args.search.now c.args.page.now c.tally.result c.tally.ensures l)
 
 pub returns-in_ok-tally-in-Tally-clause-history : goal.returns-in_ok-tally-in-Tally-clause-history
-returns-in_ok-tally-in-Tally-clause-history g c from calls answers = goes_on (returns-in_ok-tally-in-Tally-clause-performed g c)
+returns-in_ok-tally-in-Tally-clause-history g c made = goes_on (returns-in_ok-tally-in-Tally-clause-performed g c)
