@@ -1,26 +1,23 @@
 -- The account of a list of calls and a list of texts.
-use Rattle.std.proofs.Common.{◌≡◌, ℕ, suc, ◌+◌, ◌*◌, ◌<◌, ◌≤◌, Bool, Bor, cond, List, [], ◌∷◌, ◌++◌, ◌⊎◌, inl, inr, map, length, take, get_or, None, Ok, Err, Result, refl, sym, ap, ◌∙◌, subst, arith}
+use Rattle.std.proofs.Common.{◌≡◌, ℕ, suc, ◌+◌, ◌*◌, ◌<◌, ◌≤◌, Bool, Bor, List, [], ◌∷◌, ◌++◌, ◌⊎◌, inl, inr, map, length, take, get_or, None, Ok, Err, Result, refl, sym, ap, ◌∙◌, subst, arith}
 use Rattle.std.specs.Global.{Vec}
-use Rattle.std.specs.Prelude.{MatchResult}
 use Rattle.std.proofs.Math.Seq.{take-suc}
-use Rattle.std.proofs.lemmas.Bool.{lt-ltb}
 use Rattle.std.proofs.lemmas.List.{map-append, take_all}
 use Rattle.rules.specs.declared.rule.Rule.{Rule}
 use Rattle.rolls.specs.Rolls.{Surface, Lawful, Roll}
 use Rattle.systems.specs.Systems.{In, here, there}
 use Rattle.systems.proofs.Base.{never}
 use Rattle.histories.specs.Listed.{Listed}
-use Rattle.checking.specs.Checked.{Refuses, checked, judged}
-use Rattle.patterns.specs.Told.{told}
 use Rattle.checking.specs.declared.fault.CheckFault.{CheckFault}
 use Rattle.checking.specs.declared.fault.CheckFault.TheVariants.{Rows}
-use Rattle.checking.proofs.Accepting.{roll_right}
+use Rattle.checking.proofs.Verdicts.{verdicts_right}
+use Rattle.checking.specs.Verdicts.{VerdictOn, accepts, breaks_instance, breaks_tie, many_rows, misread, no_memory, no_rule, other_rule, shown, too_large}
 use Rattle.search.specs.declared.search.Search.{Search}
 use Rattle.calls.specs.Asked.{Asked, to_open}
 use Rattle.calls.specs.Histories.{Keeps, Performed, Stands}
-use Rattle.calls.specs.Ledgers.{Answered, Book, Called, Ledger, Made, Run, blank, calls_on, many_rows, new_book, no_calls, no_memory, opened, opens, tally_of}
+use Rattle.calls.specs.Ledgers.{Answered, Book, Called, Ledger, Made, Run, blank, calls_on, many_rows as over_rows, new_book, no_calls, no_memory as unopened, opened, opens, tally_of}
 use Rattle.calls.specs.declared.call.Reply.TheVariants.{Opened}
-use Rattle.accounting.specs.Accounts.{Accounted, AcceptsNone, Agreed, Both, EachJudged, Ended, Neither, OnePage, Unopened, VerdictOn, shown}
+use Rattle.accounting.specs.Accounts.{Accounted, AcceptsNone, Agreed, Both, EachJudged, Ended, Neither, OnePage, Unopened}
 use Rattle.accounting.specs.declared.report.Report.{Report}
 use Rattle.accounting.proofs.Told.{AllTold, all_told, none_ended, opened_on}
 
@@ -36,10 +33,17 @@ pub none_judged : (s : Surface) (rule : Rule) (verdicts : List (Result (Vec Bool
 none_judged s rule [] e = tt
 none_judged s rule (v ∷ verdicts) e = never (omega (arith, e))
 
--- what is promised of a verdict
-pub verdict_on : (s : Surface) (rule : Rule) (text : List ℕ) (r : Result (Vec Bool) CheckFault) → MatchResult r (λ v. checked s rule text ≡ Ok v.items) (Refuses (checked s rule text)) → VerdictOn s rule text (shown r)
-verdict_on s rule text (Ok v) h = h
-verdict_on s rule text (Err fault) h = h
+-- over more than 8 rows of ties each verdict is that
+too_many : {s : Surface} {rule : Rule} {text : List ℕ} {verdict : Result (List Bool) CheckFault} → 8 < s.rows → VerdictOn s rule text verdict → verdict ≡ Err Rows
+too_many more (many_rows m) = refl
+too_many more (misread fault few h) = never (omega (arith, more, few))
+too_many more (no_rule p cause few h) = never (omega (arith, more, few))
+too_many more (other_rule p other few h k) = never (omega (arith, more, few))
+too_many more (too_large p few h k) = never (omega (arith, more, few))
+too_many more (breaks_instance p at fits h) = never (omega (arith, more, fits.few))
+too_many more (breaks_tie p at fits h k) = never (omega (arith, more, fits.few))
+too_many more (accepts p fits h) = never (omega (arith, more, fits.few))
+too_many more (no_memory p e fits) = never (omega (arith, more, fits.few))
 
 -- ---- calls, one after another
 -- on the page as it was left
@@ -68,8 +72,8 @@ module _ (s : Surface) (rule : Rule) (at : ℕ → ℕ) where
   -- the opening leaves the page as it is
   page_kept : {a : Answered} {l : Ledger} {p p' : List ℕ} → Called blank p (to_open s rule at) a l p' → p' ≡ p
   page_kept (opens rank i o few) = refl
-  page_kept (many_rows m) = refl
-  page_kept (no_memory f) = refl
+  page_kept (over_rows m) = refl
+  page_kept (unopened f) = refl
 
   -- the opening is made
   pub begun : (q q' : Search) (p p' : List ℕ) (a : Answered) → q.record ≡ None → Performed blank q p (to_open s rule at) a q' p' → (answers : List Answered) → answers ≡ [] → Ongoing s rule at p [] a answers q' p'
@@ -139,12 +143,12 @@ not_in e (there m) = never (cc)
 module _ (s : Surface) (rule : Rule) (at : ℕ → ℕ) (law : Lawful s) where
   module _ (few : s.rows ≤ 8) where
     accepts_none : (told : List (List Bool)) → ((f : List Bool) → Roll s rule f → In f told) → tally_of told ≡ 0 → AcceptsNone s rule
-    accepts_none told all none text first accepted = let f = (roll_right.exactly s rule first law few).1 (text, accepted) in not_in (none_told told none) (all f.0 f.1)
+    accepts_none told all none text first accepted = let f = (verdicts_right.roll s rule first law few).1 (text, accepted) in not_in (none_told told none) (all f.0 f.1)
 
     tells_none : (told : List (List Bool)) → ((f : List Bool) → In f told → Roll s rule f) → AcceptsNone s rule → tally_of told ≡ 0
     tells_none [] members none = refl
     tells_none (f ∷ fs) members none =
-        let text = (roll_right.exactly s rule (take (s.frame.width * s.frame.height) f) law few).0 (f, members f here, refl) in
+        let text = (verdicts_right.roll s rule (take (s.frame.width * s.frame.height) f) law few).0 (f, members f here, refl) in
         absurd (none text.0 _ text.1)
 
     agreed : (answers : List Answered) (b : Book) → Listed s rule at b.steps b.told → (Ended answers → (f : List Bool) → Roll s rule f → In f b.told) → Agreed s rule at answers b
@@ -174,14 +178,14 @@ module _ (s : Surface) (rule : Rule) (at : ℕ → ℕ) (law : Lawful s) where
     -- by what the opening came to
     less_rows : (p p' : List ℕ) (made : List Made) (opening : Answered) (first ledger : Ledger) → Called blank p (to_open s rule at) opening first p' → a.opened ≡ opening → map (λ (m : Made). m.answer) made ≡ a.answers.items → Run first made ledger → Stands ledger q → s.rows ≤ 8 → Both s rule at a ledger ⊎ Unopened a made ledger
     less_rows p p' made opening first ledger (opens rank i o few) granted answered run stands less = inl (both few made ledger granted answered run stands)
-    less_rows p p' made opening first ledger (many_rows m) granted answered run stands less = never (omega (arith, m, less))
-    less_rows p p' made opening first ledger (no_memory f) wanting answered run stands less = inr (record { wanting = wanting; blank_on = run })
+    less_rows p p' made opening first ledger (over_rows m) granted answered run stands less = never (omega (arith, m, less))
+    less_rows p p' made opening first ledger (unopened f) wanting answered run stands less = inr (record { wanting = wanting; blank_on = run })
 
     more_rows : (p p' : List ℕ) (made : List Made) (opening : Answered) (first ledger : Ledger) → Called blank p (to_open s rule at) opening first p' → a.opened ≡ opening → Run first made ledger → 8 < s.rows → Neither s rule a made ledger
     more_rows p p' made opening first ledger (opens rank i o few) granted run more = never (omega (arith, few, more))
-    more_rows p p' made opening first ledger (many_rows m) refused run more =
-        record { opening = refused; blank_on = run; checks = λ text. ap (λ (many : Bool). cond many (Err Rows) (judged s rule (told text))) (lt-ltb 8 s.rows m) }
-    more_rows p p' made opening first ledger (no_memory f) wanting run more = never (omega (arith, f, more))
+    more_rows p p' made opening first ledger (over_rows m) refused run more =
+        record { opening = refused; blank_on = run; checks = λ text verdict due. too_many m due }
+    more_rows p p' made opening first ledger (unopened f) wanting run more = never (omega (arith, f, more))
 
   pub accounted : (from to : List ℕ) (calls asked : List Asked) (texts : List (List ℕ)) (a : Report) (q : Search) → EachJudged s rule texts a.verdicts.items → asked ≡ calls → Ongoing s rule at from asked a.opened a.answers.items q to →
       Accounted s rule at calls texts a from to
@@ -197,5 +201,5 @@ module _ (s : Surface) (rule : Rule) (at : ℕ → ℕ) (law : Lawful s) where
         run = behind h.opens h.run;
         few = λ less. less_rows a q from from h.made a.opened h.begun h.ledger h.opens refl h.answered h.run h.stands less;
         many = λ more. more_rows a q from from h.made a.opened h.begun h.ledger h.opens refl h.run more;
-        exactly = λ less first. roll_right.exactly s rule first law less;
+        exactly = λ less first. verdicts_right.roll s rule first law less;
       }

@@ -5,10 +5,10 @@ use Rattle.rules.specs.declared.rule.Rule.{Rule}
 use Rattle.rolls.specs.Rolls.{Surface, Roll}
 use Rattle.systems.specs.Systems.{In}
 use Rattle.histories.specs.Listed.{Listed}
-use Rattle.checking.specs.Checked.{checked, Refuses}
 use Rattle.checking.specs.Laws.{FirstOf}
 use Rattle.checking.specs.declared.fault.CheckFault.{CheckFault}
 use Rattle.checking.specs.declared.fault.CheckFault.TheVariants.{Rows}
+use Rattle.checking.specs.Verdicts.{VerdictOn, shown}
 use Rattle.search.specs.declared.answer.Answer.TheVariants.{Done}
 use Rattle.search.specs.declared.fault.OpenFault.TheVariants.{Memory, TieRows}
 use Rattle.calls.specs.Asked.{Asked, to_open}
@@ -17,17 +17,7 @@ use Rattle.calls.specs.declared.call.Reply.TheVariants.{Opened, Went}
 use Rattle.calls.specs.declared.fault.CallFault.TheVariants.{Open}
 use Rattle.accounting.specs.declared.report.Report.{Report}
 
--- a verdict, with the cells of the pattern that is accepted
-abbrev pub shown : Result (Vec Bool) CheckFault → Result (List Bool) CheckFault
-shown (Ok first) = Ok first.items
-shown (Err fault) = Err fault
-
--- a text has the verdict that the check is defined to give
-abbrev pub VerdictOn : Surface → Rule → List ℕ → Result (List Bool) CheckFault → Type 0
-VerdictOn s rule text (Ok first) = checked s rule text ≡ Ok first
-VerdictOn s rule text (Err fault) = Refuses (checked s rule text) fault
-
--- so has each text, in sequence
+-- each text, in sequence, has a verdict that is due
 abbrev pub EachJudged : Surface → Rule → List (List ℕ) → List (Result (Vec Bool) CheckFault) → Type 0
 EachJudged s rule [] [] = Unit {0}
 EachJudged s rule (text ∷ texts) (verdict ∷ verdicts) = VerdictOn s rule text (shown verdict) × EachJudged s rule texts verdicts
@@ -44,7 +34,7 @@ Ended answers = (steps : ℕ) × In (Ok (Went (Done steps))) answers
 
 -- the checker accepts no text at all
 abbrev pub AcceptsNone : Surface → Rule → Type 0
-AcceptsNone s rule = (text : List ℕ) (first : List Bool) → checked s rule text ≡ Ok first → ⊥
+AcceptsNone s rule = (text : List ℕ) (first : List Bool) → VerdictOn s rule text (Ok first) → ⊥
 
 -- what the finds told have to do with the roll, and with the texts that the checker accepts
 pub record Agreed (s : Surface) (rule : Rule) (at : ℕ → ℕ) (answers : List Answered) (b : Book) : Type 0 where
@@ -71,7 +61,7 @@ pub record Unopened (a : Report) (made : List Made) (l : Ledger) : Type 0 where
 pub record Neither (s : Surface) (rule : Rule) (a : Report) (made : List Made) (l : Ledger) : Type 0 where
   pub opening : a.opened ≡ Err (Open TieRows)
   pub blank_on : Run blank made l
-  pub checks : (text : List ℕ) → checked s rule text ≡ Err Rows
+  pub checks : (text : List ℕ) (verdict : Result (List Bool) CheckFault) → VerdictOn s rule text verdict → verdict ≡ Err Rows
 
 -- an account of a search that was opened on a surface, a rule and the cells by rank, of calls and of texts
 pub record Accounted (s : Surface) (rule : Rule) (at : ℕ → ℕ) (calls : List Asked) (texts : List (List ℕ)) (a : Report) (from to : List ℕ) : Type 0 where
@@ -88,4 +78,4 @@ pub record Accounted (s : Surface) (rule : Rule) (at : ℕ → ℕ) (calls : Lis
   pub few : s.rows ≤ 8 → Both s rule at a ledger ⊎ Unopened a made ledger
   pub many : 8 < s.rows → Neither s rule a made ledger
   -- over at most 8 rows the first generations of the roll are exactly the patterns that the checker accepts
-  pub exactly : s.rows ≤ 8 → (first : List Bool) → FirstOf s rule first ↔ ((text : List ℕ) × (checked s rule text ≡ Ok first))
+  pub exactly : s.rows ≤ 8 → (first : List Bool) → FirstOf s rule first ↔ ((text : List ℕ) × VerdictOn s rule text (Ok first))

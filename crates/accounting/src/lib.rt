@@ -5,6 +5,7 @@
 mod parties;
 mod report;
 mod room;
+
 pub use parties::account;
 pub use report::{Report, Verdict};
 pub use room::{NoRoom, Room};

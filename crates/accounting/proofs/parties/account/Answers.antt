@@ -1,4 +1,4 @@
-use Rattle.std.proofs.Common.{◌≡◌, ◌∙◌, arith, length, rules, sym}
+use Rattle.std.proofs.Common.{◌∙◌, arith, length, rules, sym}
 use Rattle.rolls.specs.Rolls.{Lawful, surface}
 use Rattle.calls.specs.Ledgers.{blank}
 use Rattle.accounting.specs.Rooms.{Holds}
