@@ -1,9 +1,10 @@
 -- Cells and their numbers. A cell's number has the digits t, y and x.
-use Rattle.std.proofs.Common.{◌≡◌, ℕ, ◌+◌, ◌*◌, ◌/◌, ◌%◌, ◌<◌, ◌≤◌, Some, None, sym, subst}
+use Rattle.std.proofs.Common.{◌≡◌, ℕ, ◌+◌, ◌*◌, ◌/◌, ◌%◌, ◌<◌, ◌≤◌, Some, None, sym, subst, arith}
 use Rattle.std.proofs.lemmas.Bool.{cond-true, and_from, lt-ltb}
 use Rattle.frames.specs.declared.frame.Cell.{Cell}
 use Rattle.frames.specs.declared.frame.Frame.{Frame}
 use Rattle.frames.specs.Frames.{cell_number, number_at}
+use Rattle.frames.specs.Numbers.{NumbersStand}
 use Rattle.frames.specs.Radix.{joined, joined_digits, joined_below, high_below, last_of, middle_of, first_of, last_first}
 
 -- a cell of the box has a number below the number of cells
@@ -32,3 +33,12 @@ number_back w h n = joined_digits h w n
 -- a cell of the box has its number
 pub numbered : (f : Frame) (c : Cell) → c.x < f.width → c.y < f.height → c.t < f.period → number_at f c ≡ Some (cell_number f c.x c.y c.t)
 numbered f c hx hy ht = cond-true _ _ None (and_from _ _ (and_from _ _ (lt-ltb _ _ hx) (lt-ltb _ _ hy)) (lt-ltb _ _ ht))
+
+-- and numbers go on by ones, rows and generations
+pub numbers_right : NumbersStand
+numbers_right f = record {
+  first = omega arith;
+  right = λ x y t. omega arith;
+  down = λ x y t. omega arith;
+  onward = λ x y t. omega arith;
+}

@@ -1,4 +1,5 @@
 pub mod Faults
 pub mod Frames
 pub mod Limits
+pub mod Numbers
 pub mod Radix

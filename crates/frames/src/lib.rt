@@ -8,4 +8,4 @@ mod making;
 
 pub use fault::FrameFault;
 pub use frame::{Cell, Frame};
-pub use laws::frames_stand;
+pub use laws::{frames_stand, numbers_stand};
