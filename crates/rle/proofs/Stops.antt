@@ -1,5 +1,5 @@
--- Reading stops at a size over 32 and at a run outside, and only once.
-use Rattle.std.proofs.Common.{◌≡◌, ℕ, List, [], ◌∷◌, ◌++◌, sym, ap, ◌∙◌, subst, ⊎_elim}
+-- Reading stops at a size over 32 and at a run outside, and only once; and it comes to the end or stops.
+use Rattle.std.proofs.Common.{◌≡◌, ℕ, zero, suc, ◌<◌, ◌≤◌, ◌⊎◌, ◌≢◌, List, [], ◌∷◌, ◌++◌, length, length-append, arith, inl, inr, sym, refl, ap, ◌∙◌, subst, ⊎_elim}
 use Rattle.std.specs.List.{flat_map}
 use Rattle.std.proofs.lemmas.List.{append_assoc}
 use Rattle.std.proofs.lemmas.Bool.{cases_Bool}
@@ -9,17 +9,17 @@ use Rattle.rle.specs.declared.fault.ReadCause.TheVariants.{Size, Outside}
 use Rattle.rle.specs.declared.mark.Run.{Run}
 use Rattle.rle.specs.declared.phase.Cursor.{Cursor}
 use Rattle.rle.specs.declared.phase.Phase.{Phase}
-use Rattle.rle.specs.declared.phase.Phase.TheVariants.{Opening, Body}
+use Rattle.rle.specs.declared.phase.Phase.TheVariants.{Opening, Body, Failed}
 use Rattle.rle.specs.Forms.{RunsForm, RemarkForms, ended}
-use Rattle.rle.specs.Items.{Taken, remark, header, run, Stops, here, later, top_left, body_item, opening_item}
-use Rattle.rle.specs.Laws.{StopsAtLarge, StopsOutside, StopsOnce}
+use Rattle.rle.specs.Items.{Part, Taken, remark, header, run, ending, Finishes, ends, goes, Stops, here, later, top_left, body_item, opening_item, read_item}
+use Rattle.rle.specs.Laws.{StopsAtLarge, StopsOutside, StopsOnce, EndsOrStops}
 use Rattle.rle.specs.Runs.{letter_of, Inside}
 use Rattle.rle.specs.Scans.{Scan, good, bad, past, space}
-use Rattle.rle.proofs.Bodies.{onward, fits, body_reads, body_leaves}
-use Rattle.rle.proofs.Openings.{remark_reads, head_reads, large_opens}
-use Rattle.rle.proofs.Pasts.{past_over}
+use Rattle.rle.proofs.Bodies.{onward, fits, ran, BodyView, over, ran_on, misplaced, faulty, body_view, body_reads, body_leaves}
+use Rattle.rle.proofs.Openings.{open_view, remark_reads, head_reads, large_opens}
+use Rattle.rle.proofs.Pasts.{past_over, past_split}
 use Rattle.rle.proofs.Patterns.{took_rest}
-use Rattle.rle.proofs.Reading.{read_body, read_opening, past_run, took_phase}
+use Rattle.rle.proofs.Reading.{read_body, read_opening, past_run, took_part, took_phase, is_opened}
 use Rattle.rle.proofs.Stopping.{laid_on, InBox, in_box_more, one_remark}
 
 -- a fault after remarks
@@ -83,3 +83,55 @@ stops_same {cause₂ = cause₂} {at₂ = at₂} (later x q rest e more) (later 
 
 pub stops_once : StopsOnce
 stops_once text cause₁ cause₂ at₁ at₂ s r = stops_same s r
+
+-- an item is the end, or leaves fewer bytes
+abbrev Shortens : List ℕ → Part → List ℕ → Type 0
+Shortens t x rest = (x ≡ ending) ⊎ ((x ≢ ending) × (length rest < length t))
+
+fewer : (t u : List ℕ) (b : ℕ) (rest : List ℕ) → t ≡ u ++ (b ∷ rest) → length rest < length t
+fewer t u b rest e = omega (arith, ap length e, length-append u (b ∷ rest))
+
+body_shortens : (c : Cursor) (t : List ℕ) (x : Part) (q : Phase) (rest : List ℕ) (s : Scan Taken) → BodyView c (past space t) s → s ≡ good (record { part = x; phase = q }) rest → Shortens t x rest
+body_shortens c t x q rest s (over v e) f = inl (sym (took_part (record { part = ending; phase = Body c }) (record { part = x; phase = q }) (past space t) rest f))
+body_shortens c t x q rest s (ran_on n m u v h e g) f =
+    let taken : Taken = record { part = x; phase = q } in
+    let part : run (record { count = n; mark = m }) ≡ x = took_part (ran c n m) taken v rest f in
+    let left : v ≡ rest = cc in
+    let split = past_split space t in
+    let whole : t ≡ (split.0 ++ u) ++ (letter_of m ∷ rest) = split.2 ∙ ap (λ y. split.0 ++ y) (e ∙ ap (λ y. u ++ (letter_of m ∷ y)) left) ∙ sym (append_assoc split.0 u (letter_of m ∷ rest)) in
+    inr ((λ z. let other : run (record { count = n; mark = m }) ≡ ending = part ∙ z in cc), fewer t (split.0 ++ u) (letter_of m) rest whole)
+body_shortens c t x q rest s (misplaced u b r e n v h g) f = cc
+body_shortens c t x q rest s (faulty k v h) f = cc
+
+shortens : (p : Phase) (t : List ℕ) (x : Part) (q : Phase) (rest : List ℕ) → read_item p t ≡ good (record { part = x; phase = q }) rest → Shortens t x rest
+unfolding read_item
+shortens Opening t x q rest e =
+    ⊎_elim
+    (λ p. inr ((λ z. let other : remark p.0 ≡ ending = sym p.3 ∙ z in cc), fewer t p.0 10 rest p.2))
+    (λ p. inr ((λ z. let other : header (first_line t) p.0 ≡ ending = sym p.6 ∙ z in cc), fewer t p.1 10 rest p.3))
+    (is_opened t x q rest (opening_item t) (open_view t) e)
+shortens (Body c) t x q rest e = body_shortens c t x q rest (body_item c (past space t)) (body_view c (past space t)) e
+shortens (Failed cause) t x q rest e = cc
+
+-- so reading comes to the end or to a fault
+abbrev Comes : Phase → List ℕ → Type 0
+Comes p t = ((items : List Part) × Finishes p t items) ⊎ ((cause : ReadCause) × (at : List ℕ) × Stops p t cause at)
+
+comes_by : (n : ℕ) (p : Phase) (t : List ℕ) (s : Scan Taken) → read_item p t ≡ s → length t ≤ n → ((q : Phase) (rest : List ℕ) → length rest < n → Comes q rest) → Comes p t
+comes_by n p t (bad cause at) e few next = inr (cause, at, here e)
+comes_by n p t (good taken rest) e few next =
+    ⊎_elim
+    (λ z. inl (ending ∷ [], ends taken.phase rest (e ∙ ap (λ x. good (record { part = x; phase = taken.phase }) rest) z)))
+    (λ h.
+    ⊎_elim
+    (λ f. inl (taken.part ∷ f.0, goes taken.phase rest e h.0 f.1))
+    (λ f. inr (f.0, f.1, later taken.part taken.phase rest e f.2))
+    (next taken.phase rest (omega (arith, h.1))))
+    (shortens p t taken.part taken.phase rest e)
+
+comes : (n : ℕ) (p : Phase) (t : List ℕ) → length t ≤ n → Comes p t
+comes zero p t few = comes_by zero p t (read_item p t) refl few (λ q rest h. absurd (omega arith))
+comes (suc n) p t few = comes_by (suc n) p t (read_item p t) refl few (λ q rest h. comes n q rest (omega arith))
+
+pub ends_or_stops : EndsOrStops
+ends_or_stops text = comes (length text) Opening text (omega arith)

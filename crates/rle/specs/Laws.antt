@@ -123,6 +123,10 @@ abbrev pub StopsOnce : Type 0
 StopsOnce =
     (text : List ℕ) (cause₁ cause₂ : ReadCause) (at₁ at₂ : List ℕ) → Stops Opening text cause₁ at₁ → Stops Opening text cause₂ at₂ → (cause₁ ≡ cause₂) × (at₁ ≡ at₂)
 
+-- a text is read to its end or it is at fault
+abbrev pub EndsOrStops : Type 0
+EndsOrStops = (text : List ℕ) → ((items : List Part) × Finishes Opening text items) ⊎ ((cause : ReadCause) × (at : List ℕ) × Stops Opening text cause at)
+
 -- each line of some has no newline in it
 abbrev pub OnLines : List (List ℕ) → Type 0
 OnLines [] = Unit {0}
@@ -145,6 +149,7 @@ PlacesCount = (before at : List ℕ) → Placed (before ++ at) at (spot_before (
 pub record ReadingLaws : Type 0 where
   pub every : ReadsEvery
   pub only : ReadsOnly
+  pub always : EndsOrStops
   pub faults : StopsAtFault
   pub large : StopsAtLarge
   pub outside : StopsOutside
