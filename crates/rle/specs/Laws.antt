@@ -112,13 +112,15 @@ AtFault text Ended at = EndsEarly text at
 abbrev pub StopsAtFault : Type 0
 StopsAtFault = (text : List ℕ) (cause : ReadCause) (at : List ℕ) → Stops Opening text cause at → AtFault text cause at
 
--- it stops nowhere else where a size is over 32 or a run leaves the box, whatever comes after that
+-- where a size is over 32 reading stops at the first such, whatever comes after it
 abbrev pub StopsAtLarge : Type 0
 StopsAtLarge = (text at : List ℕ) → LargeSize text at → Stops Opening text Size at
 
+-- where a run leaves the box reading stops at the first such, whatever comes after it
 abbrev pub StopsOutside : Type 0
 StopsOutside = (text at : List ℕ) → RunOutside text at → Stops Opening text Outside at
 
+-- reading stops for one cause and in one place
 abbrev pub StopsOnce : Type 0
 StopsOnce =
     (text : List ℕ) (cause₁ cause₂ : ReadCause) (at₁ at₂ : List ℕ) → Stops Opening text cause₁ at₁ → Stops Opening text cause₂ at₂ → (cause₁ ≡ cause₂) × (at₁ ≡ at₂)
@@ -143,9 +145,11 @@ pub record Placed (text at : List ℕ) (spot : Spot) : Type 0 where
   pub line : spot.line ≡ length lines + 1
   pub column : spot.column ≡ length part + 1
 
+-- the line and column that are told of the last bytes of a text are those where they start
 abbrev pub PlacesCount : Type 0
 PlacesCount = (before at : List ℕ) → Placed (before ++ at) at (spot_before (before ++ at) at)
 
+-- what reading comes to, for every text
 pub record ReadingLaws : Type 0 where
   pub every : ReadsEvery
   pub only : ReadsOnly
