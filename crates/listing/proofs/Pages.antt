@@ -29,7 +29,7 @@ use Rattle.calls.specs.declared.fault.CallFault.{CallFault}
 use Rattle.calls.specs.declared.fault.CallFault.TheVariants as calling
 use Rattle.listing.specs.declared.fault.ListFault.{ListFault}
 use Rattle.listing.specs.declared.fault.ListFault.TheVariants as listing
-use Rattle.listing.specs.Handing.{Begun, BegunBy, Broken, Ended, Handed, RanBy, TextHanded, at_rest, at_text, fronted, in_full, nothing, overwritten, page_after, rested, so_far, texts_of, took}
+use Rattle.listing.specs.Handing.{Begun, BegunBy, Broken, Ended, Handed, RanBy, TextHanded, HandedBy, at_rest, at_text, fronted, in_full, nothing, overwritten, page_after, rested, so_far, texts_of, took}
 
 -- ---- texts taken after others
 pub handed_then : {A : Type 0} {takes : A → List ℕ → A → Type 0} {rests : A → A → Type 0} {a b c : A} {xs ys : List (List ℕ)} → Handed takes rests a xs b → Handed takes rests b ys c → Handed takes rests a (xs ++ ys) c
@@ -45,6 +45,17 @@ handed_still {takes = takes} {rests = rests} {a = a} {c = c} {xs = xs} h k = sub
 pub broken_then : {A : Type 0} {takes : A → List ℕ → A → Type 0} {rests : A → A → Type 0} {fails : A → List ℕ → A → Type 0} {a b c : A} {xs ys : List (List ℕ)} → Handed takes rests a xs b → Broken takes rests fails b ys c → Broken takes rests fails a (xs ++ ys) c
 broken_then {xs = xs} h (at_text {texts = ys} text k f) = rw (← append_assoc xs ys (text ∷ [])) (at_text text (handed_then h k) f)
 broken_then h (at_rest k f) = at_rest (handed_then h k) f
+
+-- what was handed on by a fault is so whatever the call would have answered, and so it is after others
+pub handed_by : {A : Type 0} (B C : Type 0) (takes : A → List ℕ → A → Type 0) (rests : A → A → Type 0) (fails : A → List ℕ → A → Type 0) (a b : A) (fault : ListFault) → HandedBy {B = B} takes rests fails a (Err fault) b → HandedBy {B = C} takes rests fails a (Err fault) b
+handed_by B C takes rests fails a b listing.Closed h = h
+handed_by B C takes rests fails a b (listing.Call fault) h = h
+handed_by B C takes rests fails a b (listing.Foot fault) h = h
+
+pub handed_by_then : {A : Type 0} (B : Type 0) (takes : A → List ℕ → A → Type 0) (rests : A → A → Type 0) (fails : A → List ℕ → A → Type 0) (a b c : A) (xs : List (List ℕ)) (fault : ListFault) → Handed takes rests a xs b → HandedBy {B = B} takes rests fails b (Err fault) c → HandedBy {B = B} takes rests fails a (Err fault) c
+handed_by_then B takes rests fails a b c xs listing.Closed h k = (xs ++ k.0, broken_then h k.1)
+handed_by_then B takes rests fails a b c xs (listing.Call fault) h k = (xs ++ k.0, handed_then h k.1)
+handed_by_then B takes rests fails a b c xs (listing.Foot fault) h k = (xs ++ k.0, handed_then h k.1)
 
 -- ---- texts put at a page's front
 pub overwritten_last : (p : List ℕ) (xs : List (List ℕ)) (text : List ℕ) → overwritten p (xs ++ text ∷ []) ≡ fronted (overwritten p xs) text

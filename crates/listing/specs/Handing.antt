@@ -28,6 +28,11 @@ pub data Broken {A : Type 0} (takes : A → List ℕ → A → Type 0) (rests : 
   at_text : {texts : List (List ℕ)} {a b : A} (text : List ℕ) → Handed takes rests from texts a → fails a text b → Broken takes rests fails from (texts ++ text ∷ []) b
   at_rest : {texts : List (List ℕ)} {a b : A} → Handed takes rests from texts a → fails a [] b → Broken takes rests fails from texts b
 
+-- what a sink was handed by an answer: texts, until it failed where that is answered, and only there
+abbrev pub HandedBy : {A B : Type 0} → (A → List ℕ → A → Type 0) → (A → A → Type 0) → (A → List ℕ → A → Type 0) → A → Result B ListFault → A → Type 0
+HandedBy takes rests fails from (Err Closed) to = (texts : List (List ℕ)) × Broken takes rests fails from texts to
+HandedBy takes rests fails from result to = (texts : List (List ℕ)) × Handed takes rests from texts to
+
 -- ---- the page
 -- room for the text of any find, and for the last line
 abbrev pub text_room : ℕ

@@ -7,6 +7,6 @@ mod sink;
 mod space;
 
 pub use fault::ListFault;
-pub use page::{PAGE_SIZE, list_page};
+pub use page::{PAGE_SIZE, blank_page, list_page};
 pub use sink::{Closed, Sink};
 pub use space::list_space;

@@ -1,4 +1,4 @@
-ghost use Rattle.std.specs.Prelude.{◌≡◌, ℕ, ◌<◌, ◌≤◌, List, Bool, false, Some, [], ◌∷◌, length, IfOk, IfErr, OnOk, OnErr, is_none};
+ghost use Rattle.std.specs.Prelude.{◌≡◌, ℕ, ◌<◌, ◌≤◌, List, Bool, false, Some, [], ◌∷◌, length, replicate, IfOk, IfErr, OnOk, OnErr, is_none};
 ghost use Rattle.rules.specs.declared.rule.Rule.{Rule};
 ghost use Rattle.rolls.specs.Rolls.{Surface};
 ghost use Rattle.pages.specs.declared.fault.PageFault.TheVariants.{Short};
@@ -9,7 +9,7 @@ ghost use Rattle.calls.specs.Histories.{Keeps, Stands};
 ghost use Rattle.calls.specs.Ledgers.{Book, Granted, Ledger, tally_of, text_in};
 ghost use Rattle.calls.specs.declared.fault.CallFault.TheVariants.{Write};
 ghost use Rattle.listing.specs.declared.fault.ListFault.TheVariants as listing;
-ghost use Rattle.listing.specs.Handing.{BegunBy, Handed, RanBy, TextHanded, WentOn, text_room};
+ghost use Rattle.listing.specs.Handing.{BegunBy, Handed, HandedBy, RanBy, TextHanded, WentOn, text_room};
 
 use crate::fault::ListFault;
 use crate::sink::{Closed, Sink};
@@ -19,6 +19,14 @@ use search::{Answer, Search};
 
 /// How many bytes a page has that has room for every text.
 pub const PAGE_SIZE: usize = 2_048;
+
+/// A page of zeros that has room for every text.
+pub fn blank_page() -> [u8; PAGE_SIZE]
+    ensures zeros { result ≡ replicate (length result) 0 }
+    ensures room { text_room ≤ length result }
+{
+    [0; PAGE_SIZE]
+}
 
 // How many steps are taken before the sink may pass on what it holds.
 const STRIDE: u32 = 20_000;
@@ -42,6 +50,7 @@ fn rested<S: Sink>(left: u32, taken: u32, sink: &mut S) -> Result<u32, Closed>
 // Hands the find on.
 fn hand_find<S: Sink>(search: &mut Search, page: &mut [u8], sink: &mut S) -> Result<(), ListFault>
     ensures same { search.new ≡ search.old }
+    ensures sink { HandedBy S.Sink.takes S.Sink.rests S.Sink.fails sink.old result sink.new }
     ensures handed { (s : Surface) (rule : Rule) (cell : ℕ → ℕ) (b : Book) (f : List Bool) → Keeps s rule cell b search.old → b.find ≡ Some f →
         TextHanded S.Sink.takes S.Sink.rests S.Sink.fails (listing.Call (Write (Page Short))) (text_in s rule f) page.old sink.old result page.new sink.new }
 {
@@ -56,6 +65,7 @@ fn hand_find<S: Sink>(search: &mut Search, page: &mut [u8], sink: &mut S) -> Res
 // Hands the last line on: how many finds there were.
 fn hand_foot<S: Sink>(search: &mut Search, page: &mut [u8], sink: &mut S) -> Result<(), ListFault>
     ensures same { search.new ≡ search.old }
+    ensures sink { HandedBy S.Sink.takes S.Sink.rests S.Sink.fails sink.old result sink.new }
     ensures handed { (s : Surface) (rule : Rule) (cell : ℕ → ℕ) (b : Book) → Keeps s rule cell b search.old →
         TextHanded S.Sink.takes S.Sink.rests S.Sink.fails (listing.Foot Short) (found_line (tally_of b.told)) page.old sink.old result page.new sink.new }
 {
@@ -80,6 +90,7 @@ fn go_on<S: Sink>(
     requires { Granted left }
     ensures granted { (n : ℕ) → result ≡ Ok (Some n) → Granted n }
     ensures fewer { IfOk result (λ next. is_none next ≡ false → left_in search.new < left_in search.old) }
+    ensures sink { HandedBy S.Sink.takes S.Sink.rests S.Sink.fails sink.old result sink.new }
     ensures went { (l : Ledger) (p : List ℕ) (from : S) → BegunBy S.Sink.takes S.Sink.rests l p from search.old page.old sink.old →
         WentOn S.Sink.takes S.Sink.rests S.Sink.fails l p from result search.new page.new sink.new }
 {
@@ -107,6 +118,7 @@ pub fn list_page<S: Sink>(
     page: &mut [u8],
     sink: &mut S,
 ) -> Result<(), ListFault>
+    ensures sink { HandedBy S.Sink.takes S.Sink.rests S.Sink.fails sink.old result sink.new }
     ensures ran { (l : Ledger) → Stands l search.old →
         RanBy S.Sink.takes S.Sink.rests S.Sink.fails l page.old sink.old result search.new page.new sink.new }
     ensures room { (s : Surface) (rule : Rule) (cell : ℕ → ℕ) (b : Book) → Keeps s rule cell b search.old → text_room ≤ length page.old →

@@ -2,8 +2,8 @@ use Rattle.std.proofs.Common.{rules, ◌≡◌, ℕ, List, [], Err, Option, Resu
 use Rattle.calls.specs.declared.call.Reply.TheVariants.{Went}
 use Rattle.listing.specs.declared.fault.ListFault.{ListFault}
 use Rattle.listing.specs.declared.fault.ListFault.TheVariants as listing
-use Rattle.listing.specs.Handing.{BegunBy, Handed, RanBy, WentOn}
-use Rattle.listing.proofs.Pages.{done_off, done_on, found_off, found_on, found_unrested, kept_by_go, not_begun, paused_on, paused_unrested}
+use Rattle.listing.specs.Handing.{BegunBy, Broken, Handed, HandedBy, RanBy, WentOn, at_rest, nothing}
+use Rattle.listing.proofs.Pages.{done_off, done_on, found_off, found_on, found_unrested, handed_by, handed_still, kept_by_go, not_begun, paused_on, paused_unrested}
 use Rattle.listing.proofs.page.go_on.Goals as goal
 use Rattle.listing.proofs.page.go_on.Goals.{in-Found+in_ok-hand_find-in-Found, in-Paused}
 
@@ -66,4 +66,42 @@ returns-clause-went g c l p from begun =
       | in-Paused w ↦
           paused_on g.S.Sink.takes g.S.Sink.rests g.S.Sink.fails p from c.args.sink.now c.args.search.now c.perform.new.search c.args.page.now c.perform.new.page c.args.left c.in_ok-answer.field-0 c.in_ok-answer.ensures.performed same l begun
           w.in-Paused.field-0 (c.in-Went.is ∙ ap Went w.in-Paused.is) c.match-answer.search c.match-answer.page c.match-answer.sink c.rested.new.sink w.search-is w.page-is w.sink-is c.in_ok-rested.ensures.rested
+    ]
+
+-- ---- what the sink was handed, whatever the search
+pub returns-in_err-answer-clause-sink : goal.returns-in_err-answer-clause-sink
+returns-in_err-answer-clause-sink g c =
+    let answer : c.from_residual.result ≡ Err (listing.Call c.in_err-answer.field-0.0) = search rules in
+    subst (λ (r : Result (Option ℕ) ListFault). HandedBy g.S.Sink.takes g.S.Sink.rests g.S.Sink.fails c.args.sink.now r c.args.sink.now) (sym answer) ([], nothing)
+
+pub returns-in_err-hand_find-in-Found-clause-sink : goal.returns-in_err-hand_find-in-Found-clause-sink
+returns-in_err-hand_find-in-Found-clause-sink g c =
+    let answer : c.from_residual-in_err-hand_find-in-Found.result ≡ Err c.in_err-hand_find-in-Found.field-0.0 = search rules in
+    subst (λ (r : Result (Option ℕ) ListFault). HandedBy g.S.Sink.takes g.S.Sink.rests g.S.Sink.fails c.args.sink.now r c.hand_find.new.sink) (sym answer)
+    (handed_by (Unit {0}) (Option ℕ) g.S.Sink.takes g.S.Sink.rests g.S.Sink.fails c.args.sink.now c.hand_find.new.sink c.in_err-hand_find-in-Found.field-0.0 c.in_err-hand_find-in-Found.ensures.sink)
+
+pub returns-in_err-hand_foot-in-Done-clause-sink : goal.returns-in_err-hand_foot-in-Done-clause-sink
+returns-in_err-hand_foot-in-Done-clause-sink g c =
+    let answer : c.from_residual-in_err-hand_foot-in-Done.result ≡ Err c.in_err-hand_foot-in-Done.field-0.0 = search rules in
+    subst (λ (r : Result (Option ℕ) ListFault). HandedBy g.S.Sink.takes g.S.Sink.rests g.S.Sink.fails c.args.sink.now r c.hand_foot.new.sink) (sym answer)
+    (handed_by (Unit {0}) (Option ℕ) g.S.Sink.takes g.S.Sink.rests g.S.Sink.fails c.args.sink.now c.hand_foot.new.sink c.in_err-hand_foot-in-Done.field-0.0 c.in_err-hand_foot-in-Done.ensures.sink)
+
+pub returns-in-Done-clause-sink : goal.returns-in-Done-clause-sink
+returns-in-Done-clause-sink g c = c.in_ok-hand_foot-in-Done.ensures.sink
+
+pub returns-in_err-rested-clause-sink : goal.returns-in_err-rested-clause-sink
+returns-in_err-rested-clause-sink g c =
+    let answer : c.from_residual-in_err-rested.result ≡ Err listing.Closed = search rules in
+    let by : (texts : List (List ℕ)) × Broken g.S.Sink.takes g.S.Sink.rests g.S.Sink.fails c.args.sink.now texts c.rested.new.sink =
+    elim c.match-answer.branch [
+      | in-Found+in_ok-hand_find-in-Found w ↦ let find = w.in_ok-hand_find-in-Found.ensures.sink in (find.0, at_rest find.1 (subst (λ mid. g.S.Sink.fails mid [] c.rested.new.sink) w.sink-is c.in_err-rested.ensures.failed))
+      | in-Paused w ↦ ([], at_rest nothing (subst (λ mid. g.S.Sink.fails mid [] c.rested.new.sink) w.sink-is c.in_err-rested.ensures.failed))
+    ] in
+    subst (λ (r : Result (Option ℕ) ListFault). HandedBy g.S.Sink.takes g.S.Sink.rests g.S.Sink.fails c.args.sink.now r c.rested.new.sink) (sym answer) by
+
+pub returns-clause-sink : goal.returns-clause-sink
+returns-clause-sink g c =
+    elim c.match-answer.branch [
+      | in-Found+in_ok-hand_find-in-Found w ↦ let find = w.in_ok-hand_find-in-Found.ensures.sink in (find.0, handed_still find.1 (subst (λ mid. Handed g.S.Sink.takes g.S.Sink.rests mid [] c.rested.new.sink) w.sink-is c.in_ok-rested.ensures.rested))
+      | in-Paused w ↦ ([], subst (λ mid. Handed g.S.Sink.takes g.S.Sink.rests mid [] c.rested.new.sink) w.sink-is c.in_ok-rested.ensures.rested)
     ]
