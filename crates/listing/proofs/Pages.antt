@@ -29,7 +29,7 @@ use Rattle.calls.specs.declared.fault.CallFault.{CallFault}
 use Rattle.calls.specs.declared.fault.CallFault.TheVariants as calling
 use Rattle.listing.specs.declared.fault.ListFault.{ListFault}
 use Rattle.listing.specs.declared.fault.ListFault.TheVariants as listing
-use Rattle.listing.specs.Handing.{Begun, BegunBy, Broken, Ended, Handed, RanBy, TextHanded, HandedBy, at_rest, at_text, fronted, in_full, nothing, overwritten, page_after, rested, so_far, texts_of, took}
+use Rattle.listing.specs.Handing.{Begun, BegunBy, Broken, Ended, Handed, RanBy, Settled, TextHanded, HandedBy, at_rest, at_text, fronted, in_full, nothing, overwritten, page_after, rested, so_far, texts_of, took}
 
 -- ---- texts taken after others
 pub handed_then : {A : Type 0} {takes : A → List ℕ → A → Type 0} {rests : A → A → Type 0} {a b c : A} {xs ys : List (List ℕ)} → Handed takes rests a xs b → Handed takes rests b ys c → Handed takes rests a (xs ++ ys) c
@@ -249,6 +249,10 @@ module _ {A : Type 0} (takes : A → List ℕ → A → Type 0) (rests : A → A
     abbrev pub FootHanded : Result (Unit {0}) ListFault → List ℕ → A → Type 0
     FootHanded result p3 c = (s : Surface) (rule : Rule) (cell : ℕ → ℕ) (book : Book) → Keeps s rule cell book q' → TextHanded takes rests fails (listing.Foot Short) (found_line (tally_of book.told)) p2 a result p3 c
 
+    -- and that the sink rested after it
+    abbrev pub FootSettled : A → Type 0
+    FootSettled c = (s : Surface) (rule : Rule) (cell : ℕ → ℕ) (book : Book) → Keeps s rule cell book q' → Settled takes rests a (found_line (tally_of book.told) ∷ []) c
+
     -- a find is told and handed on
     pub found_on : (l : Ledger) → BegunBy takes rests l p from q p1 a → (k : ℕ) → reply ≡ Went (Found k) → (q'' : Search) (p3 : List ℕ) (c d : A) → q'' ≡ q' → length p3 ≡ length p2 → FindHanded (Ok tt) p3 c → Handed takes rests c [] d → BegunBy takes rests l p from q'' p3 d
     found_on blank h k e q'' p3 c d still long handing rest = elim (blank_goes (performed blank h.0).1) [ ]
@@ -339,14 +343,15 @@ module _ {A : Type 0} (takes : A → List ℕ → A → Type 0) (rests : A → A
         }
 
     -- all is told, and the last line handed on
-    pub done_on : (l : Ledger) → BegunBy takes rests l p from q p1 a → (k : ℕ) → reply ≡ Went (Done k) → (q'' : Search) (p3 : List ℕ) (c : A) → q'' ≡ q' → FootHanded (Ok tt) p3 c → RanBy takes rests fails l p from (Ok tt) q'' p3 c
-    done_on blank h k e q'' p3 c still handing = elim (blank_goes (performed blank h.0).1) [ ]
-    done_on (opened s rule cell b) h k e q'' p3 c still handing =
+    pub done_on : (l : Ledger) → BegunBy takes rests l p from q p1 a → (k : ℕ) → reply ≡ Went (Done k) → (q'' : Search) (p3 : List ℕ) (c : A) → q'' ≡ q' → FootHanded (Ok tt) p3 c → FootSettled c → RanBy takes rests fails l p from (Ok tt) q'' p3 c
+    done_on blank h k e q'' p3 c still handing settling = elim (blank_goes (performed blank h.0).1) [ ]
+    done_on (opened s rule cell b) h k e q'' p3 c still handing settling =
         let made = now h (Went (Done k)) e in
         let after = ended made.1 made.2 in
         let book = idle_book h.book after.0 k in
         let text = handing s rule cell book after.1 in
         let line = foot_line h in
+        let settled = settling s rule cell book after.1 in
         record {
           finds = h.finds;
           book = book;
@@ -356,6 +361,7 @@ module _ {A : Type 0} (takes : A → List ℕ → A → Type 0) (rests : A → A
           ended = record {
             all = all_told h after.2;
             handed = subst (λ (text : List ℕ). Handed takes rests from (texts_of s rule h.finds ++ text ∷ []) c) line (handed_then h.handed text.1);
+            settled = (settled.0, subst (λ (text : List ℕ). Handed takes rests from (texts_of s rule h.finds ++ text ∷ []) settled.0) line (handed_then h.handed settled.1), settled.2);
             page = put_last h p3 (found_line (tally_of book.told)) text.0 ∙ ap (λ (text : List ℕ). overwritten p (texts_of s rule h.finds ++ text ∷ [])) line;
           };
         }

@@ -28,6 +28,10 @@ pub data Broken {A : Type 0} (takes : A → List ℕ → A → Type 0) (rests : 
   at_text : {texts : List (List ℕ)} {a b : A} (text : List ℕ) → Handed takes rests from texts a → fails a text b → Broken takes rests fails from (texts ++ text ∷ []) b
   at_rest : {texts : List (List ℕ)} {a b : A} → Handed takes rests from texts a → fails a [] b → Broken takes rests fails from texts b
 
+-- texts handed on, and a rest at last
+abbrev pub Settled : {A : Type 0} → (A → List ℕ → A → Type 0) → (A → A → Type 0) → A → List (List ℕ) → A → Type 0
+Settled {A} takes rests from texts to = (at : A) × Handed takes rests from texts at × rests at to
+
 -- what a sink was handed by an answer: texts, until it failed where that is answered, and only there
 abbrev pub HandedBy : {A B : Type 0} → (A → List ℕ → A → Type 0) → (A → A → Type 0) → (A → List ℕ → A → Type 0) → A → Result B ListFault → A → Type 0
 HandedBy takes rests fails from (Err Closed) to = (texts : List (List ℕ)) × Broken takes rests fails from texts to
@@ -69,6 +73,8 @@ pub data Shown (s : Surface) (rule : Rule) (before fs : List (List Bool)) : List
 pub record Whole {A : Type 0} (takes : A → List ℕ → A → Type 0) (rests : A → A → Type 0) (s : Surface) (rule : Rule) (before finds : List (List Bool)) (p : List ℕ) (from : A) (p' : List ℕ) (to : A) : Type 0 where
   pub all : (f : List Bool) → Roll s rule f → In f (before ++ finds)
   pub handed : Handed takes rests from (page_after s rule before finds) to
+  -- the last of all is a rest, so that nothing is held back
+  pub settled : Settled takes rests from (page_after s rule before finds) to
   pub page : p' ≡ overwritten p (page_after s rule before finds)
 
 -- the sink failed

@@ -9,7 +9,7 @@ ghost use Rattle.calls.specs.Histories.{Keeps, Stands};
 ghost use Rattle.calls.specs.Ledgers.{Book, Granted, Ledger, tally_of, text_in};
 ghost use Rattle.calls.specs.declared.fault.CallFault.TheVariants.{Write};
 ghost use Rattle.listing.specs.declared.fault.ListFault.TheVariants as listing;
-ghost use Rattle.listing.specs.Handing.{BegunBy, Handed, HandedBy, RanBy, TextHanded, WentOn, text_room};
+ghost use Rattle.listing.specs.Handing.{BegunBy, Handed, HandedBy, RanBy, Settled, TextHanded, WentOn, text_room};
 
 use crate::fault::ListFault;
 use crate::sink::{Closed, Sink};
@@ -68,6 +68,8 @@ fn hand_foot<S: Sink>(search: &mut Search, page: &mut [u8], sink: &mut S) -> Res
     ensures sink { HandedBy S.Sink.takes S.Sink.rests S.Sink.fails sink.old result sink.new }
     ensures handed { (s : Surface) (rule : Rule) (cell : ℕ → ℕ) (b : Book) → Keeps s rule cell b search.old →
         TextHanded S.Sink.takes S.Sink.rests S.Sink.fails (listing.Foot Short) (found_line (tally_of b.told)) page.old sink.old result page.new sink.new }
+    ensures settled { (s : Surface) (rule : Rule) (cell : ℕ → ℕ) (b : Book) → Keeps s rule cell b search.old →
+        OnOk result (Settled S.Sink.takes S.Sink.rests sink.old (found_line (tally_of b.told) ∷ []) sink.new) }
 {
     let tally: Call = Call::Tally;
     let Reply::Counted(finds) = perform(search, &tally, page)? else {

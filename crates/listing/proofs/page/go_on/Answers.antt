@@ -33,7 +33,7 @@ pub returns-in-Done-clause-went : goal.returns-in-Done-clause-went
 returns-in-Done-clause-went g c l p from begun =
     let same = kept_by_go c.args.search.now c.perform.new.search c.args.page.now c.perform.new.page c.args.left c.in_ok-answer.field-0 c.in-Went.answer c.in_ok-answer.ensures.kind c.in-Went.is in
     done_on g.S.Sink.takes g.S.Sink.rests g.S.Sink.fails p from c.args.sink.now c.args.search.now c.perform.new.search c.args.page.now c.perform.new.page c.args.left c.in_ok-answer.field-0 c.in_ok-answer.ensures.performed same l begun
-    c.in-Done.field-0 (c.in-Went.is ∙ ap Went c.in-Done.is) c.hand_foot.new.search c.hand_foot.new.page c.hand_foot.new.sink c.in_ok-hand_foot-in-Done.ensures.same c.in_ok-hand_foot-in-Done.ensures.handed
+    c.in-Done.field-0 (c.in-Went.is ∙ ap Went c.in-Done.is) c.hand_foot.new.search c.hand_foot.new.page c.hand_foot.new.sink c.in_ok-hand_foot-in-Done.ensures.same c.in_ok-hand_foot-in-Done.ensures.handed c.in_ok-hand_foot-in-Done.ensures.settled
 
 pub returns-in_err-rested-clause-went : goal.returns-in_err-rested-clause-went
 returns-in_err-rested-clause-went g c l p from begun =

@@ -63,3 +63,9 @@ returns-in_err-rest-clause-sink g c =
 
 pub returns-clause-sink : goal.returns-clause-sink
 returns-clause-sink g c = (_ ∷ [], rested (took _ nothing c.in_ok-take.ensures.taken) c.in_ok-rest.ensures.rested)
+
+pub returns-clause-settled : goal.returns-clause-settled
+returns-clause-settled g c s rule cell b keeps =
+    let counted = finds_counted keeps c.in_ok-finds.ensures.performed c.in-Counted.finds c.in-Counted.is in
+    let put = line_put c.args.search.now c.perform.new.search c.args.page.now c.perform.new.page c.write_found.new.page c.in_ok-finds.field-0 c.in-Counted.finds c.in_ok-finds.ensures.kind c.in-Counted.is b counted c.in_ok-after.after c.in_ok-after.ensures in
+    (c.take.new.self, took (found_line (tally_of b.told)) nothing (subst (λ (text : List ℕ). g.S.Sink.takes c.args.sink.now text c.take.new.self) put.0 c.in_ok-take.ensures.taken), c.in_ok-rest.ensures.rested)
