@@ -131,9 +131,9 @@ fn fix_all(space: &mut Fixed<Mirror<Surface>>, mut lines: Lines<'_>) -> Result<(
     Ok(())
 }
 
-// The problem of a text, or the first line at fault and why. Refused with 18 at line 1 where the text has
-// over `MOST_BYTES`; with 27 at a line of the first five that is missing, and at any that is not of its
-// form; with 5 and 6 at line 1, with 1 to 4 at line 2, and with 7 to 9 from line 6 on.
+/// The problem of a text, or the first line at fault and why. Refused with 18 at line 1 where the text has
+/// over `MOST_BYTES`; with 27 at a line of the first five that is missing, and at any that is not of its
+/// form; with 5 and 6 at line 1, with 1 to 4 at line 2, and with 7 to 9 from line 6 on.
 #[tactic(auto, unfolding(crate::specs::Reading::problem_in))]
 pub fn read_problem(text: &[u8]) -> Result<Problem, ProblemFault>
     ensures value { shown result ≡ problem_in text.now }

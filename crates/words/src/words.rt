@@ -21,7 +21,7 @@ impl<'a> Words<'a> {
         })
     }
 
-    // The next word, which is passed. Where no blank comes next there is none, and nothing is passed.
+    /// The next word, which is passed. Where no blank comes next there is none, and nothing is passed.
     pub fn word(&mut self) -> Option<&'a [u8]>
         ensures value { given (seen result) self.new.rest.now ≡ next_word self.old.rest.now }
         ensures rest { self.new.rest.now ≡ word_left self.old.rest.now }
@@ -32,8 +32,8 @@ impl<'a> Words<'a> {
         Some(word)
     }
 
-    // The next word, where it is a number from 0 to 9,999 without leading zeros. A word that is none is
-    // passed too.
+    /// The next word, where it is a number from 0 to 9,999 without leading zeros. A word that is none is
+    /// passed too.
     pub fn number(&mut self) -> Option<u32>
         ensures value { given result self.new.rest.now ≡ next_number self.old.rest.now }
         ensures rest { self.new.rest.now ≡ word_left self.old.rest.now }
@@ -41,7 +41,7 @@ impl<'a> Words<'a> {
         Some(u32::from(number_of(self.word()?)?))
     }
 
-    // The same, where a number below 0 has `-` before it.
+    /// The same, where a number below 0 has `-` before it.
     pub fn signed(&mut self) -> Option<i32>
         ensures value { given result self.new.rest.now ≡ next_signed self.old.rest.now }
         ensures rest { self.new.rest.now ≡ word_left self.old.rest.now }
