@@ -49,7 +49,7 @@ module _ {A : Type 0} (takes : A → List ℕ → A → Type 0) (rests : A → A
 
 -- a blank search that was opened is new
 by_opened : {s : Surface} {rule : Rule} {cell : ℕ → ℕ} {p p' : List ℕ} {reply : Reply} {l : Ledger} {q : Search} → Called blank p (to_open s rule cell) (Ok reply) l p' → Stands l q → (s.rows ≤ 8) × (p' ≡ p) × Keeps s rule cell new_book q
-by_opened (opens rank orders few) stands = (few, refl, stands)
+by_opened (opens rank inside orders few) stands = (few, refl, stands)
 
 pub now_opened : (s : Surface) (rule : Rule) (cell : ℕ → ℕ) (q q' : Search) (p p' : List ℕ) (reply : Reply) → q.record ≡ None → ((l : Ledger) → Performed l q p (to_open s rule cell) (Ok reply) q' p') → (s.rows ≤ 8) × (p' ≡ p) × Keeps s rule cell new_book q'
 now_opened s rule cell q q' p p' reply none performed = let made = performed blank none in by_opened made.1 made.2
