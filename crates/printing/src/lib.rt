@@ -3,4 +3,4 @@
 
 mod printing;
 
-pub use printing::{write_found, write_refused};
+pub use printing::{refusal_of, write_found, write_refused};

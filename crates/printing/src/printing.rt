@@ -1,4 +1,5 @@
 ghost use Rattle.printing.specs.Printed.{Printed, found_line, refused_line};
+ghost use Rattle.std.specs.Prelude.{◌≡◌};
 
 use arrayvec::ArrayString;
 use itoa::Buffer;
@@ -17,16 +18,23 @@ pub fn write_found(page: &mut [u8], at: usize, tally: u64) -> Result<usize, Page
     write_text(page, at, line.as_str().as_bytes())
 }
 
-// Writes the line `refused N line L` into the page from `at` on.
-pub fn write_refused(page: &mut [u8], at: usize, fault: &ProblemFault) -> Result<usize, PageFault>
-    ensures { Printed page.old at (refused_line fault.now) page.new result }
+/// The line `refused N line L`, with its newline.
+pub fn refusal_of(fault: &ProblemFault) -> ArrayString<35>
+    ensures { result.bytes ≡ refused_line fault.now }
 {
     // the words and twice ten digits
-    let mut line = ArrayString::<35>::new();
+    let mut line = ArrayString::new();
     line.push_str("refused ");
     line.push_str(Buffer::new().format(fault.cause.number()));
     line.push_str(" line ");
     line.push_str(Buffer::new().format(fault.line));
     line.push_str("\n");
-    write_text(page, at, line.as_str().as_bytes())
+    line
+}
+
+// Writes the line `refused N line L` into the page from `at` on.
+pub fn write_refused(page: &mut [u8], at: usize, fault: &ProblemFault) -> Result<usize, PageFault>
+    ensures { Printed page.old at (refused_line fault.now) page.new result }
+{
+    write_text(page, at, refusal_of(fault).as_str().as_bytes())
 }

@@ -5,4 +5,4 @@ mod verdict;
 mod writing;
 
 pub use verdict::{Place, Refusal, Verdict};
-pub use writing::write_verdict;
+pub use writing::{Words, words_of, write_verdict};

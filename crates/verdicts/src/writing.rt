@@ -13,8 +13,8 @@ use pages::{PageFault, put};
 // The numbers of a place, each after a blank: room for three.
 type Numbers = ArrayString<36>;
 
-// A verdict as it is printed after the name of its file: room for the words, a number and a place.
-type Words = ArrayString<64>;
+/// A verdict as it is printed after the name of its file: room for the words, a number and a place.
+pub type Words = ArrayString<64>;
 
 // Two numbers, each after a blank.
 fn pair(first: u32, second: u32) -> Numbers
@@ -66,8 +66,8 @@ fn refused(refusal: Refusal) -> Words
     words
 }
 
-// The colon, the verdict and the newline.
-fn words_of(verdict: Verdict) -> Words
+/// The colon, the verdict and the newline, as they follow the name of a file.
+pub fn words_of(verdict: Verdict) -> Words
     ensures { result.bytes ≡ words verdict }
 {
     match verdict {

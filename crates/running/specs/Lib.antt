@@ -1,0 +1,4 @@
+pub mod Pages
+pub mod Runs
+pub mod Verdicts
+pub mod Written
