@@ -1,7 +1,8 @@
 ghost use Rattle.rolls.specs.Rolls.{surface};
 ghost use Rattle.running.specs.Runs.{IsAllOf};
 ghost use Rattle.running.specs.Verdicts.{Judged};
-ghost use Rattle.std.specs.Prelude.{◌≡◌, ℕ, List, IfOk};
+ghost use Rattle.running.specs.Written.{LineWritten};
+ghost use Rattle.std.specs.Prelude.{ℕ, List};
 ghost use Rattle.verdicts.specs.Verdicts.{verdict_line};
 
 use crate::fault::RunFault;
@@ -14,19 +15,17 @@ use std::alloc::{AllocError, Global};
 use std::io::{Read, Write};
 use verdicts::{Verdict, words_of};
 
-// The line of a verdict on a file.
-fn line_of(heap: Global, name: &[u8], verdict: Verdict) -> Result<Vec<u8>, AllocError>
-    ensures { IfOk result (λ line. line.items ≡ verdict_line name.now verdict) }
+// Writes the line of a verdict on a file; where the writer fails, a first part of it is written.
+fn write_verdict<W: Write>(output: &mut W, name: &[u8], verdict: Verdict) -> Result<(), RunFault>
+    ensures { LineWritten (verdict_line name.now verdict) (W.contents output.old) result (W.contents output.new) }
 {
-    let mut line = Vec::new(heap);
-    line.extend_from_slice(name)?;
-    line.extend_from_slice(words_of(verdict).as_str().as_bytes())?;
-    Ok(line)
+    write_line(output, name)?;
+    write_line(output, words_of(verdict).as_str().as_bytes())
 }
 
 /// Reads the text of a pattern, all bytes of the input, checks it against a space and a rule, and writes
 /// the line of its verdict after its name. `Read` comes where the input fails or there is no memory to
-/// hold it, `Memory` where there is none for the check or the line, and in both cases nothing is written;
+/// hold it, `Memory` where there is none to work the generations out, and in both cases nothing is written;
 /// `Write` where the output takes no more of the line.
 pub fn judge<S: Space, R: Read, W: Write>(
     heap: Global,
@@ -43,6 +42,5 @@ pub fn judge<S: Space, R: Read, W: Write>(
     let Some(verdict) = Verdict::of(&answer) else {
         return Err(RunFault::Memory(AllocError));
     };
-    let line = line_of(heap, name, verdict)?;
-    write_line(output, line.as_slice())
+    write_verdict(output, name, verdict)
 }
