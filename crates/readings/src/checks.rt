@@ -1,7 +1,6 @@
-use checking::check;
-use problem::read_problem;
+use problem::Problem;
+use running::{ask, judge};
 use std::alloc::{AllocError, Global};
-use verdicts::{Verdict, write_verdict};
 
 // What a line tells: a file, the problem that it is checked by, and the line that has to be printed.
 #[derive(Drop)]
@@ -37,17 +36,15 @@ impl<'a> Case<'a> {
         })
     }
 
-    // Whether a text gets its verdict, place included, as it is printed.
-    pub fn agrees(&self, heap: Global, text: &[u8]) -> bool {
-        let Ok(problem) = read_problem(self.problem.as_bytes()) else {
+    // Whether the checker, asked for the problem, prints for the text what has to be printed.
+    pub fn agrees(&self, heap: Global, mut text: &[u8]) -> bool {
+        let mut printed = Vec::new(heap);
+        let mut asked = self.problem.as_bytes();
+        let Ok(Some(Problem { rule, space, .. })) = ask(heap, &mut asked, &mut printed) else {
             return false;
         };
-        let answer = check(heap, &problem.space, &problem.rule, text);
-        let Some(verdict) = Verdict::of(&answer) else {
-            return false;
-        };
-        let mut page = [0u8; 128];
-        let end = write_verdict(&mut page, 0, self.name.as_bytes(), verdict);
-        end.is_ok_and(|end| page.get(..end) == Some(self.printed.as_bytes()))
+        let name = self.name.as_bytes();
+        judge(heap, &space, &rule, name, &mut text, &mut printed).is_ok()
+            && printed.as_slice() == self.printed.as_bytes()
     }
 }

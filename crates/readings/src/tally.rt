@@ -6,8 +6,8 @@ use std::{fmt, fs};
 // How many cases agree, and how many differ.
 #[derive(Clone, Copy, PartialEq, Eq, Debug)]
 pub struct Tally {
-    agree: u32,
-    differ: u32,
+    pub agree: u32,
+    pub differ: u32,
 }
 
 impl fmt::Display for Tally {

@@ -9,6 +9,8 @@ mod lister;
 mod output;
 mod printer;
 mod spaces;
+#[cfg(test)]
+mod tests;
 mod text;
 
 pub use asking::ask;
