@@ -20,14 +20,15 @@ impl Known<'_> {
         Ok(fs::read(rt, path.as_str())?)
     }
 
-    // Tries each case by its two files, names those that differ, and says how many agree. A case of which
-    // nothing is to be said is not counted.
-    pub fn compare<F: FnMut(Global, &[u8], &[u8]) -> anyhow::Result<Option<bool>>>(
+    // Tries each case by its two files, names those that are not as they should be, and says how many are
+    // and how many are not. A case of which nothing is to be said is not counted.
+    fn tried<F: FnMut(Global, &[u8], &[u8]) -> anyhow::Result<Option<bool>>>(
         &self,
         rt: &HostRuntime,
         title: &str,
+        should_agree: bool,
         mut agrees: F,
-    ) -> anyhow::Result<()>
+    ) -> anyhow::Result<Tally>
         requires { F.IsAlwaysCallable agrees }
     {
         let heap = rt.alloc();
@@ -41,12 +42,40 @@ impl Known<'_> {
             let Some(same) = outcome.context(format_args!("{title}: {name}"))? else {
                 continue;
             };
-            if !same {
-                println!(rt; "{title}: {name} differs")?;
+            if same != should_agree {
+                let told = if same { "agrees" } else { "differs" };
+                println!(rt; "{title}: {name} {told}")?;
             }
             tally.count(same);
         }
+        Ok(tally)
+    }
+
+    // Says of how many cases the answers agree with ours.
+    pub fn compare<F: FnMut(Global, &[u8], &[u8]) -> anyhow::Result<Option<bool>>>(
+        &self,
+        rt: &HostRuntime,
+        title: &str,
+        agrees: F,
+    ) -> anyhow::Result<()>
+        requires { F.IsAlwaysCallable agrees }
+    {
+        let tally = self.tried(rt, title, true, agrees)?;
         println!(rt; "{title}: {tally}")?;
+        Ok(())
+    }
+
+    // Says how many answers, wrong on purpose, are told apart from ours.
+    pub fn tell_apart<F: FnMut(Global, &[u8], &[u8]) -> anyhow::Result<Option<bool>>>(
+        &self,
+        rt: &HostRuntime,
+        title: &str,
+        agrees: F,
+    ) -> anyhow::Result<()>
+        requires { F.IsAlwaysCallable agrees }
+    {
+        let Tally { agree, differ } = self.tried(rt, title, false, agrees)?;
+        println!(rt; "{title}: {differ} told apart, {agree} not")?;
         Ok(())
     }
 }

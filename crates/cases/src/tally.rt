@@ -3,8 +3,8 @@ use std::fmt;
 // How many cases agree, and how many differ.
 #[derive(Clone, Copy, PartialEq, Eq, Debug)]
 pub struct Tally {
-    agree: u32,
-    differ: u32,
+    pub agree: u32,
+    pub differ: u32,
 }
 
 impl Tally {
