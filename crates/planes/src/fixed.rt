@@ -40,9 +40,10 @@ impl<S: Space> Layer<S, Pins> {
         if self.own.tie_of(cell) != Tie::Free {
             return Err(FixFault::Held);
         }
-        self.own
-            .held
-            .try_push(Pin { cell, on })
-            .map_err(|_| FixFault::Full)
+        if self.own.held.is_full() {
+            return Err(FixFault::Full);
+        }
+        self.own.held.push(Pin { cell, on });
+        Ok(())
     }
 }

@@ -1,4 +1,4 @@
-ghost use Rattle.std.specs.Prelude.{◌≡◌, ℕ, ◌==◌};
+ghost use Rattle.std.specs.Prelude.{◌≡◌, ℕ, ◌≤◌, ◌==◌, length};
 ghost use Rattle.std.specs.List.{find};
 ghost use Rattle.planes.specs.Pins.{own_tie, pinned};
 ghost use Rattle.planes.specs.Ties.{Within};
@@ -19,6 +19,7 @@ pub struct Pin {
 #[derive(Drop)]
 pub struct Pins {
     pub(crate) held: ArrayVec<Pin, 64>,
+    ghost few: { length held.items ≤ 64 },
 }
 
 // The first pin of a cell.
