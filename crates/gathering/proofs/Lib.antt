@@ -1,4 +1,5 @@
 pub mod Keeping
 pub mod Noting
+pub mod Places
 pub mod Spots
 pub mod Tied

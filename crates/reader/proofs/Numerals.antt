@@ -8,7 +8,7 @@ use Rattle.rle.specs.declared.fault.ReadCause.TheVariants.{Byte, Ended}
 use Rattle.rle.specs.Scans.{good, bad, digit, digits_on, numeral}
 use Rattle.reader.specs.Left.{first_of, longer_by}
 
-is_between : (low high b : ℕ) → low ≤ b → b ≤ high → (leb low b && leb b high) ≡ true
+pub is_between : (low high b : ℕ) → low ≤ b → b ≤ high → (leb low b && leb b high) ≡ true
 is_between low high b l h = and_from _ _ (le-leb low b l) (le-leb b high h)
 
 is_digit : (n m b : ℕ) → cond (digit b) (Some (n * 10 + (b - 48))) None ≡ Some m → (digit b ≡ true) × (n * 10 + (b - 48) ≡ m)

@@ -6,6 +6,10 @@ use Rattle.codes.specs.Codes.{is_unknown}
 use Rattle.codes.specs.Laws.{known}
 use Rattle.settling.specs.Counts.{unknowns}
 
+-- off is known
+pub off_known : Off ≡ Unknown → ⊥
+off_known e = let z : ◌≡◌ {A = ℕ} 0 1 = cc in omega arith
+
 known_counts : (b : Bool) → cond {A = ℕ} (is_unknown (known b)) 1 0 ≡ 0
 known_counts true = refl
 known_counts false = refl

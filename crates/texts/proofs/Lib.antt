@@ -1,4 +1,5 @@
 pub mod Leads
+pub mod Lengths
 pub mod Rows
 pub mod Groups
 pub mod Puts
