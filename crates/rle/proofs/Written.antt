@@ -1,5 +1,5 @@
 -- The text of a pattern is of the grammar, and so reads as that pattern.
-use Rattle.std.proofs.Common.{◌≡◌, ℕ, zero, suc, pred, ◌+◌, ◌*◌, ◌≤◌, Bool, true, false, not, eqb, leb, List, [], ◌∷◌, ◌++◌, length, take, Some, codes, decimal, sym, refl, ap, ◌∙◌, inl, inr, ⊎_elim, mul-le-mul, arith}
+use Rattle.std.proofs.Common.{◌≡◌, ℕ, zero, suc, ◌+◌, ◌*◌, ◌≤◌, Bool, true, false, not, eqb, leb, List, [], ◌∷◌, ◌++◌, length, take, Some, codes, decimal, sym, refl, ap, ◌∙◌, inl, inr, ⊎_elim, mul-le-mul, mul_comm, suc-mul, arith}
 use Rattle.std.specs.List.{range_with_len, flat_map}
 use Rattle.std.proofs.lemmas.Fmt.{length-decimal-le}
 use Rattle.std.proofs.lemmas.List.{append_assoc, append-nil, length-append, length-take}
@@ -172,7 +172,7 @@ body_short [] p few = omega arith
 body_short (r ∷ rs) p few =
     omega (arith, length-append (run_text r) (flat_map run_text rs), length-append (count_text r.count) (letter_of r.mark ∷ []), run_short r.count p.0 (omega arith), body_short rs p.1 (omega arith))
 
--- a cell makes at most two marks
+-- a cell makes one mark at most, and one step down comes before each row but the first
 cell_marks : (b : Bool) (ms : List Mark) → length (cell_mark b ms) ≤ length ms + 1
 cell_marks true ms = omega arith
 cell_marks false [] = omega arith
@@ -184,37 +184,48 @@ step_marks : (ms : List Mark) → length (step_down ms) ≤ length ms + 1
 step_marks [] = omega arith
 step_marks (m ∷ ms) = omega arith
 
-few_marks : (w k : ℕ) (bs : List Bool) → length (marks_from w k bs) ≤ 2 * length bs
-few_marks w zero [] = omega arith
-few_marks w (suc k) [] = omega arith
-few_marks w zero (b ∷ bs) = omega (arith, step_marks (cell_mark b (marks_from w (pred w) bs)), cell_marks b (marks_from w (pred w) bs), few_marks w (pred w) bs)
-few_marks w (suc k) (b ∷ bs) = omega (arith, cell_marks b (marks_from w k bs), few_marks w k bs)
+-- cells in rows of w, where this row has k cells more and at most r rows follow
+few_marks : (w k r : ℕ) (bs : List Bool) → length bs ≤ k + r * w → length (marks_from w k bs) ≤ length bs + r
+few_marks w k r [] h = omega arith
+few_marks w zero zero (b ∷ bs) h = absurd (omega arith)
+few_marks zero zero (suc r) (b ∷ bs) h = absurd (omega arith)
+few_marks (suc v) zero (suc r) (b ∷ bs) h =
+    let ms = marks_from (suc v) v bs in
+    omega (arith, step_marks (cell_mark b ms), cell_marks b ms, few_marks (suc v) v r bs (omega (arith, suc-mul r (suc v))))
+few_marks w (suc k) r (b ∷ bs) h = omega (arith, cell_marks b (marks_from w k bs), few_marks w k r bs (omega arith))
 
-few_cells : (w h : ℕ) (cells : List Bool) → w ≤ 32 → h ≤ 32 → length (take (w * h) cells) ≤ 1024
-few_cells w h cells a b = omega (arith, length-take (w * h) cells, mul-le-mul a b)
+pattern_few : (w h : ℕ) (cells : List Bool) → w ≤ 32 → h ≤ 32 → length (pattern_marks w h cells) ≤ 1055
+pattern_few w zero cells a b =
+    let long = length-take (w * 0) cells in
+    omega (arith, few_marks w w 0 (take (w * 0) cells) (omega (arith, long)), long)
+pattern_few w (suc g) cells a b =
+    let long = length-take (w * suc g) cells in
+    let whole : w * suc g ≡ g * w + w = mul_comm w (suc g) ∙ suc-mul g w in
+    omega (arith, few_marks w w g (take (w * suc g) cells) (omega (arith, long, whole)), long, mul-le-mul a b)
 
-few_all : (w h : ℕ) (cells : List Bool) → w ≤ 32 → h ≤ 32 → length (pattern_marks w h cells) ≤ 2048
-few_all w h cells a b = omega (arith, few_marks w w (take (w * h) cells), few_cells w h cells a b)
-
-line_short : (w h : ℕ) (name : List ℕ) → w ≤ 32 → h ≤ 32 → length name ≤ 21 → length (head_line w h name) ≤ 44
+line_short : (w h : ℕ) (name : List ℕ) → w ≤ 32 → h ≤ 32 → length (head_line w h name) ≤ 23 + length name
 unfolding head_line
-line_short w h name a b c =
+line_short w h name a b =
     let d = length-decimal-le 2 w (omega arith) (omega arith) (omega arith) in
     let e = length-decimal-le 2 h (omega arith) (omega arith) (omega arith) in
     simp length-append (omega arith)
 
--- how long the text of a pattern is at most: a heading of 45 bytes, two marks for each of 1,024 cells, and the end
-pub text_short : (w h births survivals : ℕ) (cells : List Bool) → w ≤ 32 → h ≤ 32 → length (pattern_text w h (written births survivals) cells) ≤ 45 + 2048 + 2
-text_short w h births survivals cells a b =
-    let name = written births survivals in
+-- how long the text of a pattern is at most: 24 bytes of heading beside the rule's, a mark for each of 1,024 cells, 31 steps down, and the end
+pub named_short : (w h : ℕ) (name : List ℕ) (cells : List Bool) → w ≤ 32 → h ≤ 32 → length (pattern_text w h name cells) ≤ 24 + length name + 1055 + 2
+named_short w h name cells a b =
     let ms = pattern_marks w h cells in
     let runs = grouped ms in
     let line = head_line w h name in
     let counts = grouped_total ms in
-    let few = few_all w h cells a b in
-    let one = line_short w h name a b (written_solid births survivals).1 in
+    let few = pattern_few w h cells a b in
+    let one = line_short w h name a b in
     let two = body_short runs counts.1 (omega (arith, counts.0)) in
     omega (arith, ap length (heading_whole w h name (body_text ms)), length-append line (10 ∷ body_text ms), length-append (flat_map run_text runs) (33 ∷ 10 ∷ []), one, two, counts.0)
+
+-- and the rule's are at most 21
+pub text_short : (w h births survivals : ℕ) (cells : List Bool) → w ≤ 32 → h ≤ 32 → length (pattern_text w h (written births survivals) cells) ≤ 45 + 1055 + 2
+text_short w h births survivals cells a b =
+    omega (arith, named_short w h (written births survivals) cells a b, (written_solid births survivals).1)
 
 pub round_trip : RoundTrip
 round_trip w h births survivals cells a b c d =
@@ -226,7 +237,7 @@ round_trip w h births survivals cells a b c d =
     let line = head_line w h name in
     let whole : pattern_text w h name cells ≡ line ++ (10 ∷ body) = heading_whole w h name body in
     let counts = grouped_total ms in
-    let few : length ms ≤ 2048 = few_all w h cells b d in
+    let few : length ms ≤ 1055 = pattern_few w h cells b d in
     let some : total runs ≤ 9999 = omega (arith, counts.0) in
     let reads =
     reads_every [] w h (Some name) runs (pattern_text w h name cells) (record {
