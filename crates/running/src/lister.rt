@@ -25,7 +25,8 @@ pub fn list_to<S: Space, O: Order, W: Write>(
     ensures { let s = surface (S.Plane.means opening.entry.space.now) (S.Space.count opening.entry.space.now) (S.Space.tied opening.entry.space.now) in PageWritten s opening.entry.rule.now (O.Order.cell_of_rank opening.entry.order.now s.frame) (W.contents output.old) result (W.contents output.new) }
 {
     let mut page = [0u8; PAGE_SIZE];
-    let mut printer = Printer::new(output);
+    let mut held = Vec::new(opening.heap);
+    let mut printer = Printer::new(output, &mut held);
     list_space(opening, &mut page, &mut printer)?;
     printer.rest()?;
     Ok(())
