@@ -3,7 +3,7 @@ use Rattle.std.proofs.Common.{◌≡◌, ℕ, ◌^◌, ◌<◌, List, length, ge
 use Rattle.std.specs.Prelude.{IsUtf8}
 use Rattle.std.specs.Result.{result_ok}
 use Rattle.std.specs.Str.Parse.{AllDigits, digits_value, without_leading_plus, ParsesUnsigned}
-use Rattle.std.proofs.lemmas.Fmt.{IsAscii-decimal, decimal_digit, decimal_is_IsNumeral, decimal_nonempty, first_decimal, decimal-digits_value, parse-decimal}
+use Rattle.std.proofs.lemmas.Fmt.{IsAscii-decimal, decimal_digit, decimal_is_IsNumeral, decimal_nonempty, first_decimal, length-decimal-le, decimal-digits_value, parse-decimal}
 use Rattle.std.proofs.lemmas.Str.{IsUtf8-from_ascii}
 use Rattle.std.proofs.lemmas.Str.Parse.{IsNumeralModel, numerals_by_value, tells_digits, digit_at}
 use Rattle.std.proofs.lemmas.Bool.{cases_eq, cond-false, ne_eqb}
@@ -12,6 +12,9 @@ use Rattle.numbers.specs.Reading.{Reads}
 
 pub own : IsNumeralModel (AllDigits 10) (digits_value 10)
 own = numerals_by_value (AllDigits 10) tells_digits
+
+pub never_longer : (bs : List ℕ) → 20 < length bs → (n : ℕ) → n < 2 ^ 64 → decimal n ≡ bs → ⊥
+never_longer bs h n k e = omega (arith, length-decimal-le 20 n (omega arith) (omega arith) k, ap length e)
 
 pub never_plus : (bs : List ℕ) → get_or bs 0 0 ≡ 43 → (n : ℕ) → n < 2 ^ 64 → decimal n ≡ bs → ⊥
 never_plus bs plus n k e =

@@ -12,10 +12,17 @@ pub fn with_digit(n: u64, byte: u8) -> Option<u64>
     n.checked_mul(10)?.checked_add(u64::from(byte - b'0'))
 }
 
+// How many digits the largest u64 has.
+const MOST_DIGITS: usize = 20;
+
 // The number whose row of digits these bytes are: no leading zero, and at most 2^64 - 1.
 pub fn read_decimal(digits: &[u8]) -> Option<u64>
     ensures { Reads digits.now result }
 {
+    // a longer row is no number, and is not gone over
+    if digits.len() > MOST_DIGITS {
+        return None;
+    }
     // `parse` takes a plus and leading zeros too
     if let [b'+', ..] | [b'0', _, ..] = digits {
         return None;

@@ -2,13 +2,16 @@ use Rattle.std.proofs.Common.{◌≡◌, ℕ, ◌<◌, ◌≤◌, List, [], ◌�
 use Rattle.std.specs.Str.Parse.{ParsesUnsigned}
 use Rattle.std.proofs.lemmas.List.{get_or_past}
 use Rattle.numbers.specs.Reading.{Reads}
-use Rattle.numbers.proofs.Rows.{never_plus, never_zero_first, never_other, parsed_reads}
+use Rattle.numbers.proofs.Rows.{never_longer, never_plus, never_zero_first, never_other, parsed_reads}
 use Rattle.numbers.proofs.reading.read_decimal.Goals as goal
 use Rattle.numbers.proofs.reading.read_decimal.Goals.{then-digits-lt1, else-digits-lt1+then-digits-lt2+in_default-1, else-digits-lt1+else-digits-lt2+in_default-1}
 
 some : (bs : List ℕ) → get_or bs 0 0 ≡ 48 → 1 ≤ length bs
 some [] e = absurd (omega arith)
 some (b ∷ bs) e = omega arith
+
+pub returns-then-digits-gt-MOST_DIGITS : goal.returns-then-digits-gt-MOST_DIGITS
+returns-then-digits-gt-MOST_DIGITS c = never_longer c.args.digits.now c.if-digits-gt-MOST_DIGITS.true
 
 pub returns-in-43 : goal.returns-in-43
 returns-in-43 c = never_plus c.args.digits.now (omega arith)
