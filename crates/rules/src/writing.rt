@@ -10,6 +10,7 @@ use arrayvec::ArrayString;
 #[derive(Clone, Copy)]
 pub struct RuleText {
     text: ArrayString<21>,
+    ghost fits: { length text.bytes ≤ 21 },
 }
 
 impl RuleText {
