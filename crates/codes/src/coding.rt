@@ -87,6 +87,7 @@ impl Part {
 pub fn code_of(rule: &Rule, descriptor: &Descriptor) -> u8
     ensures value { result ≡ code (answer rule.now) descriptor.now }
     ensures tells { CodeLaw (answer rule.now) descriptor.now result }
+    ensures few { descriptor.now.on + descriptor.now.unknown ≤ 8 }
 {
     let Some(common) = Common::of(rule, descriptor) else {
         return CONTRADICTION;

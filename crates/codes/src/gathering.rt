@@ -91,7 +91,8 @@ impl Common {
 
     // What all fitting pairs of a descriptor have in common, if there is one.
     pub(crate) fn of(rule: &Rule, descriptor: &Descriptor) -> Option<Common>
-        ensures { result ≡ common_of (answer rule.now) descriptor.now (fitting (answer rule.now) descriptor.now) }
+        ensures common { result ≡ common_of (answer rule.now) descriptor.now (fitting (answer rule.now) descriptor.now) }
+        ensures few { descriptor.now.on + descriptor.now.unknown ≤ 8 }
     {
         // no `0..=`: a goal of its loop has a name that isn't stable
         let mut common = None;

@@ -7,8 +7,8 @@ use Rattle.codes.proofs.common.Common.of.Goals as goal
 pub loop-more-preserved : goal.loop-more-preserved
 loop-more-preserved c = rw add-one (c.with-common-in-loop-more.ensures _ (c.with-common.ensures _ c.loop-more.invariant))
 
-pub returns : goal.returns
-returns c =
+pub returns-clause-common : goal.returns-clause-common
+returns-clause-common c =
     let rule = answer c.args.rule.now in
     let d = c.args.descriptor.now in
     let unknown : d.unknown ≡ c.descriptor.inside.unknown = ap (λ (p : Parts). p.unknown) (sym c.descriptor.view_is) in
