@@ -1,6 +1,7 @@
 ghost use Rattle.running.specs.declared.fault.RunFault.TheVariants as run;
 ghost use Rattle.std.specs.Prelude.{◌≡◌};
 
+use calls::CallFault;
 use listing::ListFault;
 use std::alloc::AllocError;
 use std::error::Error;
@@ -41,6 +42,8 @@ impl fmt::Display for RunFault {
     fn fmt<W: fmt::Write>(&self, f: &mut fmt::Formatter<W>) -> fmt::Result {
         match self {
             RunFault::Read(fault) | RunFault::Write(fault) => write!(f, "{fault}"),
+            // the list tells of any call that it was refused; an opening says whether memory was wanting
+            RunFault::List(ListFault::Call(CallFault::Open(fault))) => write!(f, "{fault}"),
             RunFault::List(fault) => write!(f, "{fault}"),
             RunFault::Memory(_) => write!(f, "no memory for the check"),
         }

@@ -1,5 +1,9 @@
 // What the promises leave open: that a run ends well, and what comes of a reader or a writer that fails on the way.
 use crate::{AsTold, RunFault, ask, judge, run};
+use calls::CallFault;
+use listing::ListFault;
+use search::OpenFault;
+use std::alloc::AllocError;
 use std::io::{self, ErrorKind, Read, Write};
 
 const BLOCK: &[u8] = b"rule B3/S23\nbox 2 2 1 0 0\nspace plain\norder rows\nmirror 0\n";
@@ -96,4 +100,13 @@ fn a_verdict_is_cut_off_where_the_output_is_full(rt: HostRuntime) {
             "at {room}"
         );
     }
+}
+
+#[test]
+fn memory_that_is_wanting_at_the_opening_is_named(rt: HostRuntime) -> Result<(), AllocError> {
+    let opening = CallFault::Open(OpenFault::Memory);
+    let fault = RunFault::List(ListFault::Call(opening));
+    let told = format!(in rt.alloc(); "{fault}")?;
+    assert_eq!(rt; told.as_str(), "no memory");
+    Ok(())
 }
