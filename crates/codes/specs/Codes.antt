@@ -1,16 +1,20 @@
 -- What a descriptor forces under a rule, by its fitting pairs, as a code. The rule is given by its
 -- answers: whether a cell is on next, from whether it is on and how many of its neighbours are.
 use Rattle.std.specs.Prelude.{ℕ, zero, suc, ◌+◌, Bool, true, false, cond, not, ◌&&◌, List, [], ◌∷◌, ◌==◌, nat_lt}
+use Rattle.codes.specs.declared.descriptor.Descriptor.{Descriptor}
 use Rattle.codes.specs.declared.value.Value.{Value}
 use Rattle.codes.specs.declared.value.Value.TheVariants.{Off, On, Unknown}
 use Rattle.codes.specs.Values.{agrees}
 
--- what a descriptor is to clauses: its four parts
+-- the four parts of a descriptor, without the proof of its limit
 pub record Parts : Type 0 where
   pub centre : Value
   pub on : ℕ
   pub unknown : ℕ
   pub successor : Value
+
+abbrev pub parts_of : Descriptor → Parts
+parts_of d = record { centre = d.centre; on = d.on; unknown = d.unknown; successor = d.successor }
 
 -- a centre, and a sum of the neighbours
 pub record Pair : Type 0 where

@@ -1,5 +1,5 @@
 ghost use Rattle.std.specs.Prelude.{◌≡◌, ◌+◌, ◌<◌, ◌≤◌, MatchOption, OnSome};
-ghost use Rattle.codes.specs.Codes.{code, is_unknown};
+ghost use Rattle.codes.specs.Codes.{code, is_unknown, parts_of};
 ghost use Rattle.codes.specs.Laws.{CodeLaw};
 ghost use Rattle.codes.specs.Parts.{said_of};
 ghost use Rattle.codes.specs.Tables.{index};
@@ -46,7 +46,7 @@ impl Value {
 impl Descriptor {
     // A descriptor, unless it would have more than 8 neighbours.
     pub fn new(centre: Value, on: u32, unknown: u32, successor: Value) -> Option<Descriptor>
-        ensures parts { MatchOption result (¬ (on + unknown ≤ 8)) (λ d. d ≡ record { centre = centre; on = on; unknown = unknown; successor = successor }) }
+        ensures parts { MatchOption result (¬ (on + unknown ≤ 8)) (λ d. parts_of d ≡ record { centre = centre; on = on; unknown = unknown; successor = successor }) }
         ensures few { OnSome result (on + unknown ≤ 8) }
     {
         if on > 8 || unknown > 8 - on {
@@ -62,7 +62,7 @@ impl Descriptor {
 
     // The place of its code in a table.
     pub fn index(&self) -> usize
-        ensures index { result ≡ index self.now }
+        ensures index { result ≡ index (parts_of self.now) }
         ensures below { result < 729 }
         ensures few { self.now.on + self.now.unknown ≤ 8 }
     {
@@ -85,8 +85,8 @@ impl Part {
 // What a descriptor forces under a rule: 1 for a contradiction, or a sum of 2 centre off, 4 centre
 // on, 8 successor off, 16 successor on, 32 unknown neighbours off, 64 unknown neighbours on.
 pub fn code_of(rule: &Rule, descriptor: &Descriptor) -> u8
-    ensures value { result ≡ code (answer rule.now) descriptor.now }
-    ensures tells { CodeLaw (answer rule.now) descriptor.now result }
+    ensures value { result ≡ code (answer rule.now) (parts_of descriptor.now) }
+    ensures tells { CodeLaw (answer rule.now) (parts_of descriptor.now) result }
     ensures few { descriptor.now.on + descriptor.now.unknown ≤ 8 }
 {
     let Some(common) = Common::of(rule, descriptor) else {

@@ -1,5 +1,5 @@
 ghost use Rattle.std.specs.Prelude.{◌≡◌, ◌+◌, ◌<◌, ◌≤◌, ◌&&◌, not, if◌then◌else◌};
-ghost use Rattle.codes.specs.Codes.{fitting};
+ghost use Rattle.codes.specs.Codes.{fitting, parts_of};
 ghost use Rattle.codes.specs.Commons.{Gathers, both, common_of, said_by};
 ghost use Rattle.rules.specs.Answers.{answer};
 
@@ -45,7 +45,7 @@ impl Verdict {
 impl Common {
     // What a pair says whose successor is `next`.
     fn said(descriptor: &Descriptor, centre: bool, sum: u32, next: bool) -> Common
-        ensures { result ≡ said_by descriptor.now centre sum next }
+        ensures { result ≡ said_by (parts_of descriptor.now) centre sum next }
     {
         Common {
             centre: Verdict::of(centre),
@@ -78,7 +78,7 @@ impl Common {
         more: u32,
     ) -> Option<Common>
         requires { more ≤ descriptor.now.unknown }
-        ensures { Gathers (answer rule.now) descriptor.now (record { centre = centre; sum = descriptor.now.on + more }) before result }
+        ensures { Gathers (answer rule.now) (parts_of descriptor.now) (record { centre = centre; sum = descriptor.now.on + more }) before result }
     {
         let sum = descriptor.on + more;
         let next = rule.answer(centre, sum);
@@ -91,8 +91,8 @@ impl Common {
 
     // What all fitting pairs of a descriptor have in common, if there is one.
     pub(crate) fn of(rule: &Rule, descriptor: &Descriptor) -> Option<Common>
-        ensures common { result ≡ common_of (answer rule.now) descriptor.now (fitting (answer rule.now) descriptor.now) }
-        ensures few { descriptor.now.on + descriptor.now.unknown ≤ 8 }
+        ensures { result ≡ common_of (answer rule.now) (parts_of descriptor.now)
+            (fitting (answer rule.now) (parts_of descriptor.now)) }
     {
         // no `0..=`: a goal of its loop has a name that isn't stable
         let mut common = None;
