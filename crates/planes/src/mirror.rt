@@ -74,12 +74,12 @@ impl Row for MirrorKind {
 
     // As its image in the same generation, and off where that lies outside the box.
     fn asks(&self, frame: &Frame, cell: u32) -> Tie {
-        let Some(Cell { x, y, t }) = frame.cell_at(cell) else {
-            return Tie::Free;
-        };
         if *self == MirrorKind::Untied {
             return Tie::Free;
         }
+        let Some(Cell { x, y, t }) = frame.cell_at(cell) else {
+            return Tie::Free;
+        };
         let image = self.image(frame, Place { x, y });
         image
             .and_then(|Place { x, y }| frame.number_of(Cell { x, y, t }))

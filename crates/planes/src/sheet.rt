@@ -62,8 +62,9 @@ impl<X: Axis, Y: Axis> Plane for Sheet<X, Y> {
     }
 
     fn look(&self, x: i32, y: i32) -> Option<Place> {
-        let x = self.columns.place(x, self.frame.width())?;
+        // the rows first, since past the edge of a cylinder they answer without a division
         let y = self.rows.place(y, self.frame.height())?;
+        let x = self.columns.place(x, self.frame.width())?;
         Some(Place { x, y })
     }
 }

@@ -19,6 +19,6 @@ pub(crate) fn write_heading(tail: &mut [u8], frame: &Frame, rule: &Rule) -> usiz
     let after_y = put(tail, after_width, b", y = ");
     let after_height = put_number(tail, after_y, u64::from(frame.height()));
     let after_key = put(tail, after_height, b", rule = ");
-    let after_rule = put(tail, after_key, rule.text().as_str().as_bytes());
+    let after_rule = put(tail, after_key, rule.text().as_slice());
     put(tail, after_rule, b"\n")
 }

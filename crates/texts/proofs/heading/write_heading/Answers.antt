@@ -6,7 +6,7 @@ pub returns : goal.returns
 returns c =
     let width = c.from.ensures ∙ c.width.ensures in
     let height = c.from-2.ensures ∙ c.height.ensures in
-    let name = c.as_bytes.ensures.value ∙ c.as_str.ensures.bytes ∙ c.text.ensures.bytes in
+    let name = c.as_slice.ensures.bytes ∙ c.text.ensures.bytes in
     heading_placed _ _ _ _ _ _ _ _ _ _ _ _ _ _ _ _ _ _ _ _ _ width height name c.requires
     c.put-after_x.ensures c.put_number-after_width.ensures
     c.put-after_y.ensures c.put_number-after_height.ensures
