@@ -1,9 +1,11 @@
-use crate::answers::{Answered, answers_agree};
+use crate::answers::{Answered, Expected};
 use crate::opening::{ProblemCall, opening_of};
-use crate::script::{Called, Script};
+use crate::reply::Said;
+use crate::script::{Called, Line, Script};
 use accounting::{Room, Verdict, account};
 use calls::{Call, Reply};
 use checking::CheckFault;
+use lines::Lines;
 use listing::PAGE_SIZE;
 use numbers::read_decimal;
 use planes::Plane;
@@ -16,39 +18,53 @@ use texts::write_pattern;
 // No go that is made here takes so many steps.
 const STEPS: u32 = 1_000_000;
 
-// What the calls of a script are answered, made all at once; none where they are not all made of one
-// search.
-fn answers_at_once(
+// The calls of a script; none where they are not all made of one search.
+fn calls_of<'a>(
     heap: Global,
-    script: &Script<'_>,
-    page: &mut [u8],
-) -> anyhow::Result<Option<Vec<Answered>>> {
+    script: &'a Script<'_>,
+    lines: Lines<'_>,
+) -> Result<Option<Vec<ProblemCall<'a>>>, AllocError> {
     let mut calls = Vec::new(heap);
-    for asked in script.calls(heap)? {
-        match asked.called {
-            Called::Opened => calls.push(asked.call)?,
-            Called::Blank => return Ok(None),
+    let mut called = Called::Opened;
+    for line in lines {
+        match (script.line(heap, line), called) {
+            (Line::Names(search), _) => called = search,
+            (_, Called::Blank) => return Ok(None),
+            (Line::Asks(call), Called::Opened) => {
+                calls.push(call)?;
+            }
+            (Line::Other, Called::Opened) => {}
         }
     }
-    let opening = opening_of(heap, &script.problem);
-    let room = Room::new(heap, calls.len(), 0)?;
-    let report = account(room, opening, calls.as_slice(), page, &[])?;
-    report.opened?;
-    Ok(Some(report.answers))
+    Ok(Some(calls))
 }
 
-// Whether a script of calls gets the answers that are expected, all at once.
+// Whether a script gets the answers that are expected, its calls made all at once.
 pub fn script_accounted(
     heap: Global,
     script: &[u8],
     expected: &[u8],
 ) -> anyhow::Result<Option<bool>> {
-    let script = Script::read(script)?;
+    let Some(script) = Script::read(script) else {
+        return Ok(Some(false));
+    };
     let mut page = script.page(heap)?;
-    let Some(answers) = answers_at_once(heap, &script, page.as_mut_slice())? else {
+    let Some(lines) = script.calls() else {
+        return Ok(Some(false));
+    };
+    let Some(calls) = calls_of(heap, &script, lines)? else {
         return Ok(None);
     };
-    answers_agree(heap, answers.as_slice(), page.as_slice(), expected).map(Some)
+    let opening = opening_of(heap, &script.problem);
+    let room = Room::new(heap, calls.len(), 0)?;
+    let report = account(room, opening, calls.as_slice(), page.as_mut_slice(), &[])?;
+    if !Said::of(report.opened)?.is_granted() {
+        return Ok(Some(false));
+    }
+    let mut answers = report.answers.as_slice().iter();
+    let mut expected = Expected::new(heap, expected);
+    let agree = expected.agree(&script, lines, |_, _| answers.next().copied())?;
+    Ok(Some(agree && expected.show(page.as_slice())?))
 }
 
 // The texts that a problem prints, and how many it says they are; none where it is refused.
@@ -118,7 +134,10 @@ pub fn problem_accounted(
     problem: &[u8],
     expected: &[u8],
 ) -> anyhow::Result<Option<bool>> {
-    let Some((printed, finds)) = printed_in(str::from_utf8(expected)?) else {
+    let Ok(expected) = str::from_utf8(expected) else {
+        return Ok(Some(false));
+    };
+    let Some((printed, finds)) = printed_in(expected) else {
         return Ok(None);
     };
     let Ok(problem) = read_problem(problem) else {

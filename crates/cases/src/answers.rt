@@ -1,37 +1,75 @@
+use crate::opening::ProblemCall;
 use crate::reply::Said;
+use crate::script::{Called, Line, Script};
 use calls::{CallFault, Reply};
+use lines::Lines;
 use std::alloc::{AllocError, Global};
-use std::str;
 
 // What a call is answered.
 pub type Answered = Result<Reply, CallFault>;
 
-// A page as the last answer has it: a newline is shown by two bytes.
-fn shown(heap: Global, page: &[u8]) -> Result<String, AllocError> {
-    let mut shown = String::from_str(heap, "page ")?;
-    for byte in page {
-        match byte {
-            b'\n' => shown.push_str("\\n")?,
-            _ => shown.push(char::from(*byte))?,
-        }
-    }
-    Ok(shown)
+// The answers that are expected of a script: a line for each of its calls, and one for the page at the end.
+#[derive(Clone, Copy)]
+pub struct Expected<'a> {
+    heap: Global,
+    lines: Lines<'a>,
 }
 
-// Whether the calls of a script got the answers that are expected, and the page is as expected at the end.
-pub fn answers_agree(
-    heap: Global,
-    answers: &[Answered],
-    page: &[u8],
-    expected: &[u8],
-) -> anyhow::Result<bool> {
-    let expected = str::from_utf8(expected)?;
-    let mut lines = expected.lines().map(|line| line.trim_end());
-    for answer in answers {
-        let said = Said::of(*answer)?;
-        if lines.next() != Some(format!(in heap; "{said}")?.as_str()) {
-            return Ok(false);
+impl<'a> Expected<'a> {
+    pub fn new(heap: Global, text: &'a [u8]) -> Expected<'a> {
+        Expected {
+            heap,
+            lines: Lines::new(text),
         }
     }
-    Ok(lines.next() == Some(shown(heap, page)?.as_str().trim_end()))
+
+    // Whether each of a script's calls is answered as the next lines say. A call without an answer differs.
+    pub fn agree<F: FnMut(Called, &ProblemCall<'_>) -> Option<Answered>>(
+        &mut self,
+        script: &Script<'_>,
+        calls: Lines<'_>,
+        mut answer: F,
+    ) -> Result<bool, AllocError>
+        requires { F.IsAlwaysCallable answer }
+    {
+        let mut called = Called::Opened;
+        for line in calls {
+            let line = script.line(self.heap, line);
+            if let Line::Names(search) = line {
+                called = search;
+                continue;
+            }
+            let Some(wanted) = self.lines.next_line() else {
+                return Ok(false);
+            };
+            let said = match line {
+                Line::Asks(call) => match answer(called, &call) {
+                    Some(answer) => Said::of(answer)?,
+                    None => return Ok(false),
+                },
+                _ => Said::NoSuchCall,
+            };
+            if format!(in self.heap; "{said}")?.as_bytes() != wanted {
+                return Ok(false);
+            }
+        }
+        Ok(true)
+    }
+
+    // Whether the next line shows this page, a newline by two bytes.
+    pub fn show(&mut self, page: &[u8]) -> Result<bool, AllocError> {
+        let mut shown = Vec::from_slice(self.heap, b"page")?;
+        if !page.is_empty() {
+            shown.push(b' ')?;
+        }
+        for byte in page {
+            match byte {
+                b'\n' => shown.extend_from_slice(b"\\n")?,
+                _ => {
+                    shown.push(*byte)?;
+                }
+            }
+        }
+        Ok(self.lines.next_line() == Some(shown.as_slice()))
+    }
 }

@@ -1,28 +1,30 @@
-use crate::answers::{Answered, answers_agree};
+use crate::answers::Expected;
 use crate::opening::opening_of;
+use crate::reply::Said;
 use crate::script::Script;
 use calls::{Call, perform};
 use search::Search;
-use std::alloc::Global;
+use std::alloc::{AllocError, Global};
 
-// What the calls of a script are answered, made one after another.
-fn answers_of(heap: Global, script: &Script<'_>, page: &mut [u8]) -> anyhow::Result<Vec<Answered>> {
+// Whether a script gets the answers that are expected, its calls made one after another.
+pub fn script_agrees(heap: Global, script: &[u8], expected: &[u8]) -> Result<bool, AllocError> {
+    let Some(script) = Script::read(script) else {
+        return Ok(false);
+    };
+    let mut page = script.page(heap)?;
+    let Some(calls) = script.calls() else {
+        return Ok(false);
+    };
     let mut opened = Search::blank();
     let mut blank = Search::blank();
     let opening = Call::Open(opening_of(heap, &script.problem));
-    perform(&mut opened, &opening, page)?;
-    let mut answers = Vec::new(heap);
-    for asked in script.calls(heap)? {
-        let search = asked.called.pick(&mut opened, &mut blank);
-        answers.push(perform(search, &asked.call, page))?;
+    if !Said::of(perform(&mut opened, &opening, page.as_mut_slice()))?.is_granted() {
+        return Ok(false);
     }
-    Ok(answers)
-}
-
-// Whether a script of calls gets the answers that are expected.
-pub fn script_agrees(heap: Global, script: &[u8], expected: &[u8]) -> anyhow::Result<bool> {
-    let script = Script::read(script)?;
-    let mut page = script.page(heap)?;
-    let answers = answers_of(heap, &script, page.as_mut_slice())?;
-    answers_agree(heap, answers.as_slice(), page.as_slice(), expected)
+    let mut expected = Expected::new(heap, expected);
+    let agree = expected.agree(&script, calls, |called, call| {
+        let search = called.pick(&mut opened, &mut blank);
+        Some(perform(search, call, page.as_mut_slice()))
+    })?;
+    Ok(agree && expected.show(page.as_slice())?)
 }

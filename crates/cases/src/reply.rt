@@ -3,12 +3,14 @@ use search::Answer;
 use std::alloc::AllocError;
 use std::fmt;
 
-// What a call of a search comes to, as a script has it.
+// What a line of calls comes to, as a script has it.
 #[derive(Clone, Copy)]
 pub enum Said {
     Granted(Reply),
     // by its number
     Refused(u32),
+    // the line names no call
+    NoSuchCall,
 }
 
 impl Said {
@@ -18,6 +20,10 @@ impl Said {
             Ok(reply) => Ok(Said::Granted(reply)),
             Err(fault) => fault.number().map(Said::Refused).ok_or(AllocError),
         }
+    }
+
+    pub fn is_granted(&self) -> bool {
+        matches!(self, Said::Granted(_))
     }
 }
 
@@ -32,6 +38,7 @@ impl fmt::Display for Said {
             Said::Granted(Reply::Wrote(end)) => write!(f, "wrote {end}"),
             Said::Granted(Reply::Counted(finds)) => write!(f, "count {finds}"),
             Said::Refused(number) => write!(f, "refused {number}"),
+            Said::NoSuchCall => write!(f, "no such call"),
         }
     }
 }
