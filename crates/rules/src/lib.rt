@@ -4,6 +4,8 @@
 mod fault;
 mod reading;
 mod rule;
+#[cfg(test)]
+mod tests;
 mod writing;
 
 pub use fault::RuleFault;

@@ -21,6 +21,7 @@ pub struct RuleText {
 impl RuleText {
     pub fn len(&self) -> usize
         ensures value { result ≡ self.now.len }
+        ensures text { result ≡ length (take self.now.len self.now.bytes) }
         ensures fits { result ≤ 21 }
     {
         self.len
